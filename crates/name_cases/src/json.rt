@@ -1,0 +1,65 @@
+// Derived JSON names.
+use crate::say;
+use names::json_name;
+use names::name::Fronted;
+
+fn derive(name: &[u8]) {
+    let mut out = [b'.'; 8];
+    say::text(b"JSON name of ");
+    say::quoted(name);
+    let written = json_name::write_json_name(&mut out, name);
+    match written {
+        Fronted::Written(n) => {
+            say::text(b": length ");
+            say::number(n as u64);
+        }
+        Fronted::TooShort => say::text(b": no room"),
+    }
+    say::text(b", buffer ");
+    say::quoted(&out);
+    say::text(b"\n");
+}
+
+pub fn derived() {
+    derive(b"a_b");
+    derive(b"_a");
+    derive(b"a__b");
+    derive(b"a_1");
+    derive(b"URL_x");
+    derive(b"a_B");
+    derive(b"ab_");
+    derive(b"__");
+    derive(b"");
+    derive(b"a_b_c_d_e_f_g_h");
+    derive(b"nine_bytes");
+}
+
+fn is(name: &[u8], text: &[u8]) {
+    say::quoted(text);
+    say::text(b" is the JSON name of ");
+    say::quoted(name);
+    say::answer(json_name::is_json_name(name, text));
+}
+
+fn same(name: &[u8], other: &[u8]) {
+    say::quoted(name);
+    say::text(b" and ");
+    say::quoted(other);
+    say::text(b" have one JSON name");
+    say::answer(json_name::same_json_names(name, other));
+}
+
+pub fn compared() {
+    is(b"a_b", b"aB");
+    is(b"a_b", b"a_b");
+    is(b"a_b", b"aBc");
+    is(b"a_bc", b"aB");
+    is(b"__", b"");
+    same(b"a_b", b"aB");
+    same(b"a_b", b"a__b_");
+    same(b"_a", b"A");
+    same(b"_a", b"a");
+    same(b"__", b"_");
+    same(b"ab", b"a");
+    same(b"a", b"ab");
+}
