@@ -1,7 +1,10 @@
 // Defaults of each type.
 use crate::say;
 use names::runtime_type_box;
-use names::runtime_type_box::{DefaultRead, FieldType, TypeRead, Words};
+use names::runtime_type_box::DefaultRead;
+use names::runtime_type_box::FieldType;
+use names::runtime_type_box::TypeRead;
+use names::runtime_type_box::Words;
 
 fn words(w: Words) {
     say::text(b", words ");
@@ -36,75 +39,95 @@ fn read(number: u32, value: &[u8]) {
     say::text(b"\n");
 }
 
-fn default(number: u32, value: &[u8]) {
-    say::text(b"default of type ");
-    say::number(number as u64);
+fn default(name: &[u8], number: u32, value: &[u8]) {
+    say::text(b"default of ");
+    say::text(name);
     say::text(b" ");
     say::quoted(value);
     read(number, value);
 }
 
-pub fn signed() {
-    default(5, b"-0");
-    default(5, b"+0");
-    default(5, b"2147483647");
-    default(5, b"2147483648");
-    default(17, b"-2147483648");
-    default(15, b"-2147483649");
-    default(3, b"9223372036854775807");
-    default(3, b"9223372036854775808");
-    default(18, b"-9223372036854775808");
-    default(16, b"-9223372036854775809");
-    default(3, b"-1");
+fn signed_32() {
+    default(b"int32", 5, b"-0");
+    default(b"int32", 5, b"+0");
+    default(b"int32", 5, b"2147483647");
+    default(b"int32", 5, b"2147483648");
+    default(b"sint32", 17, b"-2147483648");
+    default(b"sfixed32", 15, b"-2147483649");
 }
 
-pub fn unsigned() {
-    default(13, b"-0");
-    default(13, b"+0");
-    default(13, b"4294967295");
-    default(7, b"4294967296");
-    default(4, b"18446744073709551615");
-    default(6, b"18446744073709551616");
-    default(6, b"99999999999999999999999999");
-    default(4, b"-1");
+fn signed_64() {
+    default(b"int64", 3, b"-1");
+    default(b"int64", 3, b"9223372036854775807");
+    default(b"int64", 3, b"9223372036854775808");
+    default(b"sint64", 18, b"-9223372036854775808");
+    default(b"sfixed64", 16, b"-9223372036854775809");
 }
 
-// A digit behind so many zeros.
-fn padded(number: u32) {
+fn unsigned() {
+    default(b"uint32", 13, b"-0");
+    default(b"uint32", 13, b"+0");
+    default(b"uint32", 13, b"4294967295");
+    default(b"fixed32", 7, b"4294967296");
+    default(b"uint64", 4, b"18446744073709551615");
+    default(b"fixed64", 6, b"18446744073709551616");
+    default(b"fixed64", 6, b"99999999999999999999999999");
+    default(b"uint64", 4, b"-1");
+}
+
+fn shapes() {
+    default(b"int32", 5, b"");
+    default(b"int32", 5, b"-");
+    default(b"int32", 5, b"+");
+    default(b"uint32", 13, b"+");
+    default(b"int32", 5, b"+-1");
+    default(b"int32", 5, b"--1");
+    default(b"int32", 5, b"1 ");
+    default(b"int32", 5, b"0x1");
+    default(b"int32", 5, b"1.0");
+}
+
+fn bools_and_texts() {
+    default(b"bool", 8, b"true");
+    default(b"bool", 8, b"false");
+    default(b"bool", 8, b"True");
+    default(b"bool", 8, b"");
+    default(b"string", 9, b"hello");
+    default(b"string", 9, b"");
+}
+
+fn other_types() {
+    default(b"enum", 14, b"A");
+    default(b"group", 10, b"");
+    default(b"message", 11, b"x");
+    default(b"double", 1, b"1");
+    default(b"float", 2, b"inf");
+    default(b"bytes", 12, b"a");
+    default(b"type number 0", 0, b"1");
+    default(b"type number 19", 19, b"1");
+}
+
+// A digit behind as many zeros as a default has room for.
+fn padded(name: &[u8], number: u32) {
     let mut digits = [b'0'; 256];
     digits[255] = b'7';
-    say::text(b"default of type ");
-    say::number(number as u64);
+    say::text(b"default of ");
+    say::text(name);
     say::text(b" of 255 zeros and a 7");
     read(number, &digits);
 }
 
-pub fn shapes() {
-    padded(5);
-    padded(4);
-    default(5, b"");
-    default(5, b"-");
-    default(5, b"+");
-    default(13, b"+");
-    default(5, b"+-1");
-    default(5, b"--1");
-    default(5, b"1 ");
-    default(5, b"0x1");
-    default(5, b"1.0");
+fn long_texts() {
+    padded(b"int32", 5);
+    padded(b"uint64", 4);
 }
 
-pub fn other_types() {
-    default(8, b"true");
-    default(8, b"false");
-    default(8, b"True");
-    default(8, b"");
-    default(9, b"hello");
-    default(14, b"A");
-    default(10, b"");
-    default(11, b"x");
-    default(1, b"1");
-    default(2, b"inf");
-    default(12, b"a");
-    default(0, b"1");
-    default(19, b"1");
+pub fn run() {
+    signed_32();
+    signed_64();
+    unsigned();
+    shapes();
+    long_texts();
+    bools_and_texts();
+    other_types();
 }

@@ -4,7 +4,7 @@ use names::json_name;
 use names::name::Fronted;
 
 fn derive(name: &[u8]) {
-    let mut out = [b'.'; 8];
+    let mut out = [b'-'; 8];
     say::text(b"JSON name of ");
     say::quoted(name);
     let written = json_name::write_json_name(&mut out, name);
@@ -20,13 +20,16 @@ fn derive(name: &[u8]) {
     say::text(b"\n");
 }
 
-pub fn derived() {
+fn derived() {
     derive(b"a_b");
     derive(b"_a");
     derive(b"a__b");
     derive(b"a_1");
     derive(b"URL_x");
     derive(b"a_B");
+}
+
+fn derived_at_the_end() {
     derive(b"ab_");
     derive(b"__");
     derive(b"");
@@ -49,12 +52,15 @@ fn same(name: &[u8], other: &[u8]) {
     say::answer(json_name::same_json_names(name, other));
 }
 
-pub fn compared() {
+fn compared() {
     is(b"a_b", b"aB");
     is(b"a_b", b"a_b");
     is(b"a_b", b"aBc");
     is(b"a_bc", b"aB");
     is(b"__", b"");
+}
+
+fn compared_both_derived() {
     same(b"a_b", b"aB");
     same(b"a_b", b"a__b_");
     same(b"_a", b"A");
@@ -62,4 +68,11 @@ pub fn compared() {
     same(b"__", b"_");
     same(b"ab", b"a");
     same(b"a", b"ab");
+}
+
+pub fn run() {
+    derived();
+    derived_at_the_end();
+    compared();
+    compared_both_derived();
 }

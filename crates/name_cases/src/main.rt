@@ -6,17 +6,8 @@ mod rules;
 mod say;
 
 fn main() {
-    rules::identifiers();
-    rules::dotted_lists();
-    rules::packages_and_types();
-    rules::other_texts();
-    packages::beneath();
-    packages::elsewhere();
-    packages::joined();
-    json::derived();
-    json::compared();
-    defaults::signed();
-    defaults::unsigned();
-    defaults::shapes();
-    defaults::other_types();
+    rules::run();
+    packages::run();
+    json::run();
+    defaults::run();
 }

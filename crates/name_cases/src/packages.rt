@@ -16,7 +16,7 @@ fn rest(full: &[u8], package: &[u8]) {
     say::text(b"\n");
 }
 
-pub fn beneath() {
+fn beneath() {
     rest(b".foo.bar", b"foo");
     rest(b".foo.bar.Baz", b"foo.bar");
     rest(b".foo.bar.Baz", b"foo");
@@ -26,7 +26,7 @@ pub fn beneath() {
     rest(b".", b"");
 }
 
-pub fn elsewhere() {
+fn elsewhere() {
     rest(b".foo", b"foo");
     rest(b".foobar.x", b"foo");
     rest(b".fo.x", b"foo");
@@ -39,7 +39,7 @@ pub fn elsewhere() {
 
 // Joins two names in a buffer of twelve bytes, and shows all of it.
 fn join(first: &[u8], second: &[u8]) {
-    let mut out = *b"............";
+    let mut out = [b'-'; 12];
     name::put_front(&mut out, first);
     say::text(b"join ");
     say::quoted(first);
@@ -58,14 +58,24 @@ fn join(first: &[u8], second: &[u8]) {
     say::text(b"\n");
 }
 
-pub fn joined() {
+fn joined() {
     join(b"foo", b"Bar");
     join(b"", b"Bar");
     join(b"foo", b"");
     join(b"", b"");
+}
+
+fn joined_at_the_end() {
     join(b"foo.bar", b"Baz1");
     join(b"foo.bar", b"Baz12");
     join(b"", b"thirteenbytes");
     join(b"twelve bytes", b"x");
     join(b"twelve bytes", b"");
+}
+
+pub fn run() {
+    beneath();
+    elsewhere();
+    joined();
+    joined_at_the_end();
 }

@@ -26,24 +26,29 @@ fn type_name(s: &[u8]) {
     say::answer(bytes::is_type_name(s));
 }
 
-fn file_name(s: &[u8]) {
+// Texts that a terminal cannot show are `shown` in another way.
+fn file_name(shown: &[u8], s: &[u8]) {
     say::text(b"file name ");
-    say::quoted(s);
+    say::quoted(shown);
     say::answer(bytes::is_file_name(s));
 }
 
-fn printable(s: &[u8]) {
+fn printable(shown: &[u8], s: &[u8]) {
     say::text(b"JSON name or default ");
-    say::quoted(s);
+    say::quoted(shown);
     say::answer(bytes::is_printable(s));
 }
 
-pub fn identifiers() {
+fn identifiers() {
     identifier(b"_a");
     identifier(b"a1");
     identifier(b"URL_x");
     identifier(b"_");
+    identifier(b"Z9");
     identifier(b"");
+}
+
+fn no_identifiers() {
     identifier(b"1a");
     identifier(b"a-b");
     identifier(b"a.b");
@@ -52,7 +57,7 @@ pub fn identifiers() {
     identifier(b"z{");
 }
 
-pub fn dotted_lists() {
+fn dotted_lists() {
     dotted(b"a");
     dotted(b"a.b._c1");
     dotted(b"");
@@ -63,11 +68,14 @@ pub fn dotted_lists() {
     dotted(b"a.1b");
 }
 
-pub fn packages_and_types() {
+fn packages() {
     package(b"");
     package(b"foo.bar");
     package(b".foo");
     package(b"foo.");
+}
+
+fn type_names() {
     type_name(b".foo.Bar");
     type_name(b".A");
     type_name(b"");
@@ -76,14 +84,27 @@ pub fn packages_and_types() {
     type_name(b"..A");
 }
 
-pub fn other_texts() {
-    file_name(b"ferry/deck.proto");
-    file_name(b"!~");
-    file_name(b"");
-    file_name(b"a b");
-    file_name(b"a\x7f");
-    printable(b"");
-    printable(b"a b~");
-    printable(b"a\x1f");
-    printable(b"\x80");
+fn file_names() {
+    file_name(b"ferry/deck.proto", b"ferry/deck.proto");
+    file_name(b"!~", b"!~");
+    file_name(b"", b"");
+    file_name(b"a b", b"a b");
+    file_name(b"a, byte 127", b"a\x7f");
+}
+
+fn printables() {
+    printable(b"", b"");
+    printable(b"a b~", b"a b~");
+    printable(b"a, byte 31", b"a\x1f");
+    printable(b"byte 128", b"\x80");
+}
+
+pub fn run() {
+    identifiers();
+    no_identifiers();
+    dotted_lists();
+    packages();
+    type_names();
+    file_names();
+    printables();
 }

@@ -1,8 +1,8 @@
 -- Laws of integers as text, over the limit. Assumes nothing.
-use Prim.Native.Nat.{ℕ, suc, _+_, _*_, _-_, _≤_, _<_, _^_}
+use Prim.Native.Nat.{ℕ, _+_, _*_, _-_, _≤_, _<_}
 use native.Mathlib.Numerals.{add-one}
 use native.Mathlib.Omega.{arith}
-use mathlib.Core.Path.{_≡_, refl, sym, ap, _∙_}
+use mathlib.Core.Path.{_≡_, refl}
 use mathlib.Core.Bool.{Bool, true, false, cond}
 use mathlib.Core.List.{List, [], _∷_}
 use mathlib.Core.Option.{Option, none, some, Option·none-ne-some}
@@ -13,7 +13,6 @@ use lib.Seq.{drop-cons}
 use borrow.Author.Tests.{le-leb, lt-leb, ne-eqb, leb-true}
 use Rattle.names.specs.Bytes.{isDigit}
 use Rattle.names.specs.Answers.{naturalAnswer, signedAnswer}
-use Rattle.names.specs.declared.integer.Natural.{Natural}
 use Rattle.names.specs.declared.integer.Natural.the-variants.{Number, Unread}
 use Rattle.names.specs.declared.integer.Signed.the-variants.{Value, Unreadable}
 use Rattle.names.specs.Integer.{decimalFrom, decimal, within, unsigned, signed, positive, negative}

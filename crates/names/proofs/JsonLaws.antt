@@ -1,5 +1,5 @@
 -- Laws of the derived JSON name, a byte at a time. Assumes nothing.
-use Prim.Native.Nat.{ℕ, zero, suc, _+_, _≤_, _<_}
+use Prim.Native.Nat.{ℕ, suc, _+_, _≤_, _<_}
 use native.Mathlib.Nat.{zero-add}
 use native.Mathlib.Numerals.{add-one}
 use native.Mathlib.Omega.{arith}
@@ -82,7 +82,7 @@ module _ (s : List ℕ) (i m : ℕ) (at : m ≡ i + underscores (drop i s)) wher
 
 -- ---- its length, which case does not change
 
-pub length-cased : (l : List ℕ) → length (jsonFrom true l) ≡ length (jsonFrom false l)
+length-cased : (l : List ℕ) → length (jsonFrom true l) ≡ length (jsonFrom false l)
 unfolding jsonFrom
 length-cased [] = refl
 length-cased (b ∷ l) = by (eqb b 95) (λ e. simp e) (λ e. simp e)

@@ -1,10 +1,10 @@
 -- Laws of joined names, and of names beneath a package. Assumes nothing.
-use Prim.Native.Nat.{ℕ, suc, _+_, _≤_, _<_}
+use Prim.Native.Nat.{ℕ, _+_, _≤_, _<_}
 use native.Mathlib.Nat.{zero-add}
 use native.Mathlib.Numerals.{add-one}
 use native.Mathlib.Omega.{arith}
 use mathlib.Core.Path.{_≡_, refl, sym, _∙_}
-use mathlib.Core.Bool.{Bool, true, false, _&&_}
+use mathlib.Core.Bool.{true, false, _&&_}
 use mathlib.Core.List.{List, [], _∷_, _++_}
 use lib.Dec.{eqb}
 use lib.ListN.{length, getD, take, drop, set, length-append, drop-of-length-le}
@@ -21,7 +21,7 @@ use Rattle.names.specs.Package.{concatPaths, leadOf, liesBeneath, restBe
 
 -- ---- joined names
 
-pub concat-first : (s t : List ℕ) → length s ≡ 0 → concatPaths s t ≡ t
+concat-first : (s t : List ℕ) → length s ≡ 0 → concatPaths s t ≡ t
 unfolding concatPaths
 concat-first [] t h = refl
 concat-first (a ∷ s) t h = absurd (omega arith)
@@ -33,7 +33,7 @@ concat-second [] (b ∷ t) h = absurd (omega arith)
 concat-second (a ∷ s) [] h = refl
 concat-second (a ∷ s) (b ∷ t) h = absurd (omega arith)
 
-pub concat-both : (s t : List ℕ) → 0 < length s → 0 < length t → concatPaths s t ≡ s ++ 46 ∷ t
+concat-both : (s t : List ℕ) → 0 < length s → 0 < length t → concatPaths s t ≡ s ++ 46 ∷ t
 unfolding concatPaths
 concat-both [] t n m = absurd (omega arith)
 concat-both (a ∷ s) [] n m = absurd (omega arith)
@@ -53,7 +53,7 @@ module _ (d t : List ℕ) (n : ℕ) where
       (λ l. rw (concat-first d t (omega arith)) (omega arith)))
 
   module _ (first : n ≡ 0 → ⊥) (second : length t ≡ 0 → ⊥) (inside : n < length d) where
-    pub concat-is : concatPaths (take n d) t ≡ take n d ++ 46 ∷ t
+    concat-is : concatPaths (take n d) t ≡ take n d ++ 46 ∷ t
     concat-is = concat-both (take n d) t (rw (length-take-le n d (omega arith)) (omega arith)) (omega arith)
 
     pub length-concat : length (concatPaths (take n d) t) ≡ n + 1 + length t

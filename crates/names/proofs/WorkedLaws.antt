@@ -1,6 +1,5 @@
 -- The worked table's rows about names and defaults hold: both sides of each compute to the same. Assumes nothing.
 use mathlib.Core.Path.{refl}
-use Rattle.names.specs.Bytes.{dot}
 use Rattle.names.specs.Package.{liesBeneath, restBeneath}
 use Rattle.names.specs.Json.{toUpper, jsonName}
 use Rattle.names.specs.Default.{defaultOf}

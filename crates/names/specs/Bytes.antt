@@ -1,7 +1,7 @@
 -- The byte rules: which texts may stand as identifiers, packages, type names, file names, JSON names and defaults.
 -- A text is the list of its bytes, each a number below 256. How long a text may be is another rule's business. Assumes nothing.
 use Prim.Native.Nat.{ℕ}
-use mathlib.Core.Bool.{Bool, true, false, not, cond, _&&_, _||_}
+use mathlib.Core.Bool.{Bool, false, not, cond, _&&_, _||_}
 use mathlib.Core.List.{List, [], _∷_}
 use lib.Dec.{eqb}
 use Rattle.lists.specs.Lists.{between, isEmpty, all}

@@ -1,9 +1,9 @@
 -- The rows of the worked table that speak of names and defaults alone, as one statement over the definitions. Assumes nothing.
 use Prim.Native.Nat.{ℕ}
 use mathlib.Core.Path.{_≡_}
-use mathlib.Core.Bool.{Bool, true, false}
+use mathlib.Core.Bool.{true, false}
 use mathlib.Core.List.{List, [], _∷_, _++_}
-use mathlib.Core.Option.{Option, some}
+use mathlib.Core.Option.{some}
 use Rattle.names.specs.Bytes.{dot, underscore}
 use Rattle.names.specs.Package.{liesBeneath, restBeneath}
 use Rattle.names.specs.Json.{jsonName}
@@ -12,7 +12,6 @@ use Rattle.names.specs.Types.{runtimeType}
 use Rattle.names.specs.Default.{wordsOf, defaultOf, defaultRefusal}
 use Rattle.names.specs.declared.runtime_type_box.FieldType.the-variants.{Int32, Uint32}
 use Rattle.names.specs.declared.runtime_type_box.Words.{Words}
-use Rattle.names.specs.declared.runtime_type_box.DefaultRead.{DefaultRead}
 use Rattle.names.specs.declared.runtime_type_box.DefaultRead.the-variants.{Integer}
 
 -- the texts of the table, but for their dots

@@ -1,7 +1,11 @@
 // Field types and their defaults, after runtime_type_box.rs of the Rust.
 use crate::bytes::same_bytes;
-use crate::integer::{read_signed, read_unsigned, split_signed, split_unsigned};
-use crate::integer::{Natural, Signed};
+use crate::integer::Natural;
+use crate::integer::Signed;
+use crate::integer::read_signed;
+use crate::integer::read_unsigned;
+use crate::integer::split_signed;
+use crate::integer::split_unsigned;
 ghost use mathlib.Core.Path.{_≡_};
 ghost use Rattle.names.specs.Types.{typeOf, runtimeType};
 ghost use Prim.Native.Nat.{_≤_, _<_, _^_};

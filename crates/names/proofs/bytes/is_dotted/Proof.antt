@@ -1,5 +1,5 @@
 -- `names::bytes::is_dotted` meets its contract: a machine that reads a byte at a time answers for the whole. Assumes nothing.
-use Prim.Native.Nat.{ℕ, _≤_, _<_, _-_}
+use Prim.Native.Nat.{_≤_, _-_}
 use native.Mathlib.Omega.{arith}
 use mathlib.Core.Path.{_≡_}
 use borrow.Author.Tests.{not-true, not-false, ne-eqb, eq-eqb}

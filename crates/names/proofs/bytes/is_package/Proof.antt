@@ -1,6 +1,6 @@
 -- `names::bytes::is_package` meets its contract. Assumes nothing.
 use borrow.Author.Needs.{needs}
-use mathlib.Core.Path.{_≡_, sym, _∙_}
+use mathlib.Core.Path.{sym, _∙_}
 use Rattle.names.proofs.BytesLaws.{package-none, package-some}
 use Rattle.names.proofs.bytes.is_package.Statement.{statement}
 use Rattle.names.proofs.bytes.is_package.Tie as tie

@@ -1,6 +1,6 @@
 -- `names::bytes::is_type_name` meets its contract. Assumes nothing.
 use borrow.Author.Needs.{needs}
-use mathlib.Core.Path.{_≡_, sym}
+use mathlib.Core.Path.{sym}
 use borrow.Author.Tests.{eq-eqb, ne-eqb}
 use Rattle.lists.proofs.ListLaws.{part-all}
 use Rattle.names.proofs.BytesLaws.{type-name-none, type-name-at}

@@ -1,11 +1,11 @@
-use Prim.Native.Nat.{ℕ, _+_, _*_, _≤_, _<_, _-_}
+-- `names::integer::read_digits` meets its contract: what is left answers for the whole, and what went past the limit stays past it. Assumes nothing.
+use Prim.Native.Nat.{ℕ, _+_, _*_, _≤_, _-_}
 use native.Mathlib.Omega.{arith}
-use mathlib.Core.Path.{_≡_, refl, sym, ap, _∙_}
-use mathlib.Core.Bool.{Bool, true, false}
+use mathlib.Core.Path.{_≡_, sym, ap, _∙_}
+use mathlib.Core.Bool.{true, false}
 use borrow.Author.Tests.{not-true, not-false}
 use lib.ListN.{length, drop, getD}
 use Rattle.names.specs.Integer.{decimalFrom, decimal, within}
-use Rattle.names.specs.Answers.{naturalAnswer}
 use Rattle.names.proofs.IntegerLaws.{decimal-at, decimal-stop, decimal-end, decimal-none, decimal-some, within-none, within-some, within-over}
 use lib.Dec.{leb}
 use borrow.Author.Tests.{leb-true}

@@ -1,15 +1,14 @@
+-- `names::integer::read_signed` meets its contract. Assumes nothing.
 use borrow.Author.Needs.{needs}
-use Prim.Native.Nat.{ℕ, _+_, _≤_, _<_, _-_, _^_}
+use Prim.Native.Nat.{_≤_, _<_, _-_, _^_}
 use native.Mathlib.Omega.{arith}
-use mathlib.Core.Path.{_≡_, refl, sym, ap, _∙_}
-use mathlib.Core.Option.{Option, none, some}
-use lib.ListN.{length, drop, getD}
+use mathlib.Core.Path.{_≡_, sym, _∙_}
+use mathlib.Core.Option.{none, some}
+use lib.ListN.{drop}
 use lib.IntN.{pos, negℤ}
 use mir.Syntax.{w64}
-use mir.Val.{SFits}
 use mir.ValLaws.{toZ-ofZ, toZ-pos}
-use Rattle.names.specs.Integer.{within, decimal, unsigned, signed, positive, negative}
-use Rattle.names.specs.Answers.{naturalAnswer, signedAnswer}
+use Rattle.names.specs.Integer.{within, decimal, unsigned, positive, negative}
 use Rattle.lists.proofs.ListLaws.{part-all}
 use Rattle.names.proofs.SignLaws.{negated-fits}
 use Rattle.names.proofs.IntegerLaws.{answer-some, answer-none, within-le, unsigned-le, signed-none, signed-minus, signed-plus}
@@ -26,29 +25,8 @@ plus-some c = answer-some _ _ (sym (c .before .before .read-unsigned .ensures) �
 returns : tie.Need-returns
 returns c = simp (signed-none, c .if1 .taken)
 
-shared-slice-read-if2 : tie.Need-shared-slice-read-if2
-shared-slice-read-if2 c = search needs
-
-sub-read-digits : tie.Need-sub-read-digits
-sub-read-digits c = search needs
-
-part-read-digits-start : tie.Need-part-read-digits-start
-part-read-digits-start c = search needs
-
-part-read-digits-end : tie.Need-part-read-digits-end
-part-read-digits-end c = search needs
-
-read-digits-requires : tie.Need-read-digits-requires
-read-digits-requires c κs = search needs
-
-enum-known-m : tie.Need-enum-known-m
-enum-known-m c = search needs
-
 negated-requires : tie.Need-negated-requires
 negated-requires c κs = omega (arith, within-le _ _ _ (minus-some (c .before)), c .before .before .before .before .before .before .before .before .before .pre .0)
-
-enum-told : tie.Need-enum-told
-enum-told c = search needs
 
 returns-2 : tie.Need-returns-2
 unfolding negative
@@ -68,20 +46,8 @@ returns-3 c =
     let e : within (a .half) (decimal (drop 1 (a .s .now))) ≡ none = answer-none _ (sym (simp part-all at (c .before .before .read-digits .ensures)) ∙ c .enum-told .given .1) in
     simp (signed-minus (a .half) (a .s .now) (b .before .before .if1 .left) (b .if2 .taken), e)
 
-sub-read-unsigned : tie.Need-sub-read-unsigned
-sub-read-unsigned c = search needs
-
-read-unsigned-requires : tie.Need-read-unsigned-requires
-read-unsigned-requires c κs = search needs
-
-enum-known-p : tie.Need-enum-known-p
-enum-known-p c = search needs
-
 cast-t19 : tie.Need-cast-t19
 cast-t19 c = record { sfits = omega (arith, unsigned-le _ _ _ (plus-some (c .before)), c .before .before .before .before .before .before .before .before .pre) }
-
-enum-told-2 : tie.Need-enum-told-2
-enum-told-2 c = search needs
 
 returns-4 : tie.Need-returns-4
 unfolding positive
@@ -105,20 +71,20 @@ read-signed-spec =
     tie.close
     (tie.spec
     returns
-    shared-slice-read-if2
-    sub-read-digits
-    part-read-digits-start
-    part-read-digits-end
-    read-digits-requires
-    enum-known-m
+    (λ c. search needs)
+    (λ c. search needs)
+    (λ c. search needs)
+    (λ c. search needs)
+    (λ c κs. search needs)
+    (λ c. search needs)
     negated-requires
-    enum-told
+    (λ c. search needs)
     returns-2
     returns-3
-    sub-read-unsigned
-    read-unsigned-requires
-    enum-known-p
+    (λ c. search needs)
+    (λ c κs. search needs)
+    (λ c. search needs)
     cast-t19
-    enum-told-2
+    (λ c. search needs)
     returns-4
     returns-5)

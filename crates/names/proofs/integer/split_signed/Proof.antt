@@ -1,15 +1,14 @@
+-- `names::integer::split_signed` meets its contract: below zero by way of -1 - v. Assumes nothing.
 use borrow.Author.Needs.{needs}
-use Prim.Native.Nat.{ℕ, _≤_, _<_, _-_}
+use Prim.Native.Nat.{_-_}
 use native.Mathlib.Omega.{arith}
-use mathlib.Core.Path.{_≡_, refl, sym, ap, _∙_}
-use mathlib.Core.Bool.{Bool, true, false}
-use lib.IntN.{ℤ, pos, negsuc, negℤ, _-ℤ_, natAbs}
+use mathlib.Core.Path.{_≡_, sym, _∙_}
+use mathlib.Core.Bool.{true}
+use lib.IntN.{pos, negsuc, _-ℤ_}
 use lib.Signed.{mag, ltZ}
 use mir.Syntax.{w64}
-use mir.Val.{SFits, toZ, ofZ}
+use mir.Val.{toZ, ofZ}
 use mir.ValLaws.{toZ-pos, toZ-ofZ}
-use Rattle.names.specs.Integer.{twosComplement}
-use Rattle.names.specs.Default.{wordsOf}
 use Rattle.names.proofs.SignLaws.{flips, complement-below, not-below, complement-pos}
 use Rattle.names.proofs.integer.split_signed.Statement.{statement}
 use Rattle.names.proofs.integer.split_signed.Tie as tie
@@ -42,9 +41,6 @@ cast-split-unsigned c = rw (flipped c, back c) (tt, record { fits = omega (arith
 sub-split-unsigned-2 : tie.Need-sub-split-unsigned-2
 sub-split-unsigned-2 c = rw (flipped c, back c) (omega (arith, c .before .fits .v .sfits))
 
-split-unsigned-requires : tie.Need-split-unsigned-requires
-split-unsigned-requires c κs = search needs
-
 returns : tie.Need-returns
 returns c =
     let v = c .before .before .args .v in
@@ -52,9 +48,6 @@ returns c =
 
 cast-split-unsigned-2 : tie.Need-cast-split-unsigned-2
 cast-split-unsigned-2 c = rw (kept c) (tt, record { fits = omega (arith, c .before .fits .v .sfits) })
-
-split-unsigned-requires-2 : tie.Need-split-unsigned-requires-2
-split-unsigned-requires-2 c κs = search needs
 
 returns-2 : tie.Need-returns-2
 returns-2 c =
@@ -68,8 +61,8 @@ split-signed-spec =
     sub-split-unsigned
     cast-split-unsigned
     sub-split-unsigned-2
-    split-unsigned-requires
+    (λ c κs. search needs)
     returns
     cast-split-unsigned-2
-    split-unsigned-requires-2
+    (λ c κs. search needs)
     returns-2)

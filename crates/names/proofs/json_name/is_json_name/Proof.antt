@@ -1,7 +1,7 @@
-use Prim.Native.Nat.{ℕ, _+_, _≤_, _<_, _-_}
+-- `names::json_name::is_json_name` meets its contract: what is left of both answers for the whole. Assumes nothing.
+use Prim.Native.Nat.{_≤_, _-_}
 use native.Mathlib.Omega.{arith}
-use mathlib.Core.Path.{_≡_, refl, sym, _∙_}
-use mathlib.Core.Bool.{Bool, true, false}
+use mathlib.Core.Path.{_≡_, refl}
 use mathlib.Core.Logic.{⊎-elim}
 use borrow.Author.Tests.{eq-eqb, ne-eqb}
 use lib.ListN.{length, drop, getD}

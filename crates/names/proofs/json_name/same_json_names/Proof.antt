@@ -1,5 +1,5 @@
 -- `names::json_name::same_json_names` meets its contract: what is left of both answers for the whole. Assumes nothing.
-use Prim.Native.Nat.{ℕ, _+_, _-_, _≤_, _<_}
+use Prim.Native.Nat.{_-_, _≤_}
 use native.Mathlib.Omega.{arith}
 use mathlib.Core.Path.{_≡_, refl, sym, _∙_}
 use mathlib.Core.Bool.{false}
@@ -40,8 +40,10 @@ returns-2 c =
     let l = b .before .loop in
     let a = b .before .before .before .before .args in
     sym (l .inv .2
-    ∙ rw (json-next (a .name .now) (l .i) (b .past-underscores .result) (b .past-underscores .ensures) (c .before .if1 .left),
-    json-past (a .other .now) (l .j) (c .before .before .past-underscores2 .result) (c .before .before .past-underscores2 .ensures) (l .inv .1) (c .if2 .taken)))
+    ∙ rw (
+      json-next (a .name .now) (l .i) (b .past-underscores .result) (b .past-underscores .ensures) (c .before .if1 .left),
+      json-past (a .other .now) (l .j) (c .before .before .past-underscores2 .result) (c .before .before .past-underscores2 .ensures) (l .inv .1) (c .if2 .taken),
+    ))
 
 returns-3 : tie.Need-returns-3 Inv-loop μ-loop
 unfolding same
@@ -51,9 +53,13 @@ returns-3 c =
     let l = b .before .loop in
     let a = b .before .before .before .before .args in
     sym (l .inv .2
-    ∙ rw (json-next (a .name .now) (l .i) (b .past-underscores .result) (b .past-underscores .ensures) (d .if1 .left),
-    json-next (a .other .now) (l .j) (d .before .past-underscores2 .result) (d .before .past-underscores2 .ensures) (c .before .before .before .before .before .if2 .left),
-    ← c .before .before .before .cased-byte .ensures, ← c .before .cased-byte2 .ensures, ne-eqb _ _ (c .if3 .taken)))
+    ∙ rw (
+      json-next (a .name .now) (l .i) (b .past-underscores .result) (b .past-underscores .ensures) (d .if1 .left),
+      json-next (a .other .now) (l .j) (d .before .past-underscores2 .result) (d .before .past-underscores2 .ensures) (c .before .before .before .before .before .if2 .left),
+      ← c .before .before .before .cased-byte .ensures,
+      ← c .before .cased-byte2 .ensures,
+      ne-eqb _ _ (c .if3 .taken),
+    ))
 
 loop-again : tie.Need-loop-again Inv-loop μ-loop
 unfolding same
@@ -61,11 +67,18 @@ loop-again c =
     let d = c .before .before .before .before .before .before in
     let b = d .before .before in
     let l = b .before .loop in
-    let a = b .before .before .before .before .args in
-    (omega (arith, d .if1 .left), omega (arith, c .before .before .before .before .before .if2 .left), l .inv .2
-    ∙ rw (json-next (a .name .now) (l .i) (b .past-underscores .result) (b .past-underscores .ensures) (d .if1 .left),
-    json-next (a .other .now) (l .j) (d .before .past-underscores2 .result) (d .before .past-underscores2 .ensures) (c .before .before .before .before .before .if2 .left),
-    ← c .before .before .before .cased-byte .ensures, ← c .before .cased-byte2 .ensures, eq-eqb _ _ (c .if3 .left)))
+    let a = b .before .before .before .before .args in (
+      omega (arith, d .if1 .left),
+      omega (arith, c .before .before .before .before .before .if2 .left),
+      l .inv .2
+          ∙ rw (
+            json-next (a .name .now) (l .i) (b .past-underscores .result) (b .past-underscores .ensures) (d .if1 .left),
+            json-next (a .other .now) (l .j) (d .before .past-underscores2 .result) (d .before .past-underscores2 .ensures) (c .before .before .before .before .before .if2 .left),
+            ← c .before .before .before .cased-byte .ensures,
+            ← c .before .cased-byte2 .ensures,
+            eq-eqb _ _ (c .if3 .left),
+          ),
+    )
 
 pub same-json-names-spec : {M : Type 1} → statement M
 same-json-names-spec =

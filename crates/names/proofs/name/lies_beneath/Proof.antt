@@ -1,11 +1,10 @@
+-- `names::name::lies_beneath` meets its contract. Assumes nothing.
 use borrow.Author.Needs.{needs}
-use Prim.Native.Nat.{ℕ, _≤_, _<_, _-_}
+use Prim.Native.Nat.{_≤_, _<_, _-_}
 use native.Mathlib.Omega.{arith}
-use mathlib.Core.Path.{_≡_, refl, sym, _∙_}
-use mathlib.Core.Bool.{Bool, true, false, _&&_}
-use mathlib.Core.List.{List, [], _∷_}
+use mathlib.Core.Path.{sym}
 use borrow.Author.Tests.{not-true, not-false}
-use lib.ListN.{length, drop, getD}
+use lib.ListN.{length, drop}
 use Rattle.lists.proofs.Cases.{and-false}
 use Rattle.lists.proofs.ListLaws.{part-all}
 use Rattle.names.proofs.PackageLaws.{lies-none, lies-wrong, lies-root, lies-at, dot-short, dot-at}
@@ -14,9 +13,6 @@ use Rattle.names.proofs.name.lies_beneath.Tie as tie
 
 returns : tie.Need-returns
 returns c = sym (lies-none _ _ (c .if1 .taken))
-
-shared-slice-read-if2 : tie.Need-shared-slice-read-if2
-shared-slice-read-if2 c = search needs
 
 returns-2 : tie.Need-returns-2
 returns-2 c =
@@ -27,18 +23,6 @@ returns-3 : tie.Need-returns-3
 returns-3 c =
     let a = c .before .before .before .before .before .before .args in
     sym (lies-root (a .name .now) (a .package .now) (omega arith) (c .before .if2 .left) (c .if3 .taken))
-
-sub-tail : tie.Need-sub-tail
-sub-tail c = search needs
-
-part-tail-start : tie.Need-part-tail-start
-part-tail-start c = search needs
-
-part-tail-end : tie.Need-part-tail-end
-part-tail-end c = search needs
-
-starts-with-requires : tie.Need-starts-with-requires
-starts-with-requires c κs = search needs
 
 returns-4 : tie.Need-returns-4
 returns-4 c =
@@ -56,9 +40,6 @@ returns-5 c =
     let k : length (drop 1 (a .name .now)) ≤ length (a .package .now) = simp part-all at (c .if5 .taken) in
     simp (lies-at (a .name .now) (a .package .now) h (b .before .if2 .left) (b .if3 .left), dot-short, k, and-false)
 
-shared-slice-read-result : tie.Need-shared-slice-read-result
-shared-slice-read-result c = search needs
-
 returns-6 : tie.Need-returns-6
 returns-6 c =
     let b = c .before .before .before .before .before in
@@ -73,14 +54,14 @@ lies-beneath-spec =
     tie.close
     (tie.spec
     returns
-    shared-slice-read-if2
+    (λ c. search needs)
     returns-2
     returns-3
-    sub-tail
-    part-tail-start
-    part-tail-end
-    starts-with-requires
+    (λ c. search needs)
+    (λ c. search needs)
+    (λ c. search needs)
+    (λ c κs. search needs)
     returns-4
     returns-5
-    shared-slice-read-result
+    (λ c. search needs)
     returns-6)

@@ -1,10 +1,11 @@
+-- `names::name::rest_beneath` meets its contract. Assumes nothing.
 use borrow.Author.Needs.{needs}
-use Prim.Native.Nat.{ℕ, _+_, _≤_, _<_, _-_}
+use Prim.Native.Nat.{_+_, _≤_, _-_}
 use native.Mathlib.Omega.{arith}
-use mathlib.Core.Path.{_≡_, refl, sym, _∙_}
-use mathlib.Core.Bool.{Bool, true, false}
+use mathlib.Core.Path.{_≡_, sym, _∙_}
+use mathlib.Core.Bool.{true}
 use borrow.Author.Tests.{not-true, not-false}
-use lib.ListN.{length, drop}
+use lib.ListN.{length}
 use Rattle.names.specs.Package.{liesBeneath}
 use Rattle.lists.proofs.ListLaws.{part-all}
 use Rattle.names.proofs.PackageLaws.{lies-length, lead-root, lead-more, rest-none, rest-some}
@@ -25,12 +26,6 @@ more-fits c =
     let a = c .before .before .before .before .before .args in
     omega (arith, lies-length (a .name .now) (a .package .now) (lies (c .before)), lead-more (a .package .now) (c .if2 .left))
 
-lies-beneath-requires : tie.Need-lies-beneath-requires
-lies-beneath-requires c κs = search needs
-
-slice-aggregate-result : tie.Need-slice-aggregate-result
-slice-aggregate-result c = search needs
-
 returns : tie.Need-returns
 returns c =
     let l = c .before .before .lies-beneath in
@@ -42,25 +37,16 @@ sub-result c = root-fits c
 part-result-start : tie.Need-part-result-start
 part-result-start c = root-fits c
 
-part-result-end : tie.Need-part-result-end
-part-result-end c = search needs
-
 returns-2 : tie.Need-returns-2
 returns-2 c =
     let a = c .before .before .before .before .before .before .args in
     simp (part-all, rest-some, lies (c .before .before), lead-root (a .package .now) (c .before .if2 .taken))
-
-add-from : tie.Need-add-from
-add-from c = search needs
 
 sub-result-2 : tie.Need-sub-result-2
 sub-result-2 c = more-fits c
 
 part-result-start-2 : tie.Need-part-result-start-2
 part-result-start-2 c = more-fits c
-
-part-result-end-2 : tie.Need-part-result-end-2
-part-result-end-2 c = search needs
 
 returns-3 : tie.Need-returns-3
 returns-3 c =
@@ -71,15 +57,15 @@ pub rest-beneath-spec : {M : Type 1} → statement M
 rest-beneath-spec =
     tie.close
     (tie.spec
-    lies-beneath-requires
-    slice-aggregate-result
+    (λ c κs. search needs)
+    (λ c. search needs)
     returns
     sub-result
     part-result-start
-    part-result-end
+    (λ c. search needs)
     returns-2
-    add-from
+    (λ c. search needs)
     sub-result-2
     part-result-start-2
-    part-result-end-2
+    (λ c. search needs)
     returns-3)
