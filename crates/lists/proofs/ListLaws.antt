@@ -1,4 +1,4 @@
--- Laws of `isEmpty`, `all`, `any`, `same`, `startsWith` and `part`. Assumes nothing.
+-- Laws of `isEmpty`, `all`, `any`, `same`, `isPrefixOf` and `part`. Assumes nothing.
 use mathlib.Core.Path.{_≡_, refl, sym, ap, _∙_}
 use mathlib.Core.Bool.{Bool, true, false, not, _||_, _&&_}
 use mathlib.Core.List.{List, [], _∷_, _++_}
@@ -10,7 +10,7 @@ use lib.Dec.{eqb}
 use lib.ListN.{length, getD, take, drop, drop-of-length-le, length-append, length-drop, length-take}
 use lib.Seq.{drop-cons, take-all, take-take, getD-take, getD-drop}
 use borrow.Author.Tests.{eq-eqb, ne-eqb, eqb-true}
-use Rattle.lists.specs.Lists.{isEmpty, all, any, part, same, startsWith}
+use Rattle.lists.specs.Lists.{isEmpty, all, any, part, same, isPrefixOf}
 use Rattle.lists.proofs.Cases.{by, clash, equal, both, left, right, and-false, and-assoc, or-false, or-assoc}
 
 module _ {A : Type 0} where
@@ -182,32 +182,32 @@ unfolding same
 same-prefix [] s t = refl
 same-prefix (a ∷ p) s t = rw (eq-eqb a a refl) (same-prefix p s t)
 
--- ---- startsWith
+-- ---- isPrefixOf
 
 -- a turn of a loop over both, and its end
-pub starts-at : (p s : List ℕ) (i : ℕ) → i < length p → i < length s
-    → startsWith (drop i p) (drop i s) ≡ eqb (getD p i 0) (getD s i 0) && startsWith (drop (i + 1) p) (drop (i + 1) s)
-unfolding startsWith
-starts-at p s i hp hs = rw (add-one, drop-cons p i 0, drop-cons s i 0)
+pub prefix-at : (p s : List ℕ) (i : ℕ) → i < length p → i < length s
+    → isPrefixOf (drop i p) (drop i s) ≡ eqb (getD p i 0) (getD s i 0) && isPrefixOf (drop (i + 1) p) (drop (i + 1) s)
+unfolding isPrefixOf
+prefix-at p s i hp hs = rw (add-one, drop-cons p i 0, drop-cons s i 0)
 
-pub starts-end : (p s : List ℕ) (i : ℕ) → length p ≤ i → startsWith (drop i p) (drop i s) ≡ true
-unfolding startsWith
-starts-end p s i h = rw (drop-of-length-le p h)
+pub prefix-end : (p s : List ℕ) (i : ℕ) → length p ≤ i → isPrefixOf (drop i p) (drop i s) ≡ true
+unfolding isPrefixOf
+prefix-end p s i h = rw (drop-of-length-le p h)
 
-pub starts-short : (p s : List ℕ) → length s < length p → startsWith p s ≡ false
-unfolding startsWith
-starts-short [] s h = absurd (omega arith)
-starts-short (a ∷ p) [] h = refl
-starts-short (a ∷ p) (b ∷ s) h = rw (starts-short p s (omega arith)) (and-false (eqb a b))
+pub prefix-short : (p s : List ℕ) → length s < length p → isPrefixOf p s ≡ false
+unfolding isPrefixOf
+prefix-short [] s h = absurd (omega arith)
+prefix-short (a ∷ p) [] h = refl
+prefix-short (a ∷ p) (b ∷ s) h = rw (prefix-short p s (omega arith)) (and-false (eqb a b))
 
-pub starts-length : (p s : List ℕ) → startsWith p s ≡ true → length p ≤ length s
-unfolding startsWith
-starts-length [] s e = omega arith
-starts-length (a ∷ p) [] e = clash false e refl
-starts-length (a ∷ p) (b ∷ s) e = let h = starts-length p s (right (eqb a b) (startsWith p s) e) in omega arith
+pub prefix-length : (p s : List ℕ) → isPrefixOf p s ≡ true → length p ≤ length s
+unfolding isPrefixOf
+prefix-length [] s e = omega arith
+prefix-length (a ∷ p) [] e = clash false e refl
+prefix-length (a ∷ p) (b ∷ s) e = let h = prefix-length p s (right (eqb a b) (isPrefixOf p s) e) in omega arith
 
-pub starts-append : (p q s : List ℕ) → startsWith (p ++ q) s ≡ startsWith p s && startsWith q (drop (length p) s)
-unfolding startsWith
-starts-append [] q s = refl
-starts-append (a ∷ p) q [] = refl
-starts-append (a ∷ p) q (b ∷ s) = rw (starts-append p q s) (sym (and-assoc (eqb a b) (startsWith p s) (startsWith q (drop (length p) s))))
+pub prefix-append : (p q s : List ℕ) → isPrefixOf (p ++ q) s ≡ isPrefixOf p s && isPrefixOf q (drop (length p) s)
+unfolding isPrefixOf
+prefix-append [] q s = refl
+prefix-append (a ∷ p) q [] = refl
+prefix-append (a ∷ p) q (b ∷ s) = rw (prefix-append p q s) (sym (and-assoc (eqb a b) (isPrefixOf p s) (isPrefixOf q (drop (length p) s))))

@@ -10,9 +10,9 @@ use Rattle.lists.specs.Below.{bit}
 abbrev pub between : ℕ → ℕ → ℕ → Bool
 between lo hi n = leb lo n && leb n hi
 
--- r is one of the n numbers from i on
+-- n is one of so many numbers (`count`) from `first` on
 abbrev pub inRange : ℕ → ℕ → ℕ → Bool
-inRange i n r = leb i r && ltb r (i + n)
+inRange first count n = leb first n && ltb n (first + count)
 
 module _ {A : Type 0} where
   -- the list has no element
@@ -35,7 +35,7 @@ module _ {A : Type 0} where
   total f [] = 0
   total f (x ∷ l) = f x + total f l
 
-  -- the n elements from element `start` on
+  -- the n elements from element `start` on, fewer where the list ends
   abbrev pub part : ℕ → ℕ → List A → List A
   part start n l = take n (drop start l)
 
@@ -56,11 +56,11 @@ same [] (b ∷ t) = false
 same (a ∷ s) [] = false
 same (a ∷ s) (b ∷ t) = eqb a b && same s t
 
--- the second list starts with the first
-unfoldable pub startsWith : List ℕ → List ℕ → Bool
-startsWith [] s = true
-startsWith (a ∷ p) [] = false
-startsWith (a ∷ p) (b ∷ s) = eqb a b && startsWith p s
+-- the first list is what the second starts with
+unfoldable pub isPrefixOf : List ℕ → List ℕ → Bool
+isPrefixOf [] s = true
+isPrefixOf (a ∷ p) [] = false
+isPrefixOf (a ∷ p) (b ∷ s) = eqb a b && isPrefixOf p s
 
 -- the n numbers from i on: i, i + 1, ..
 unfoldable pub span : ℕ → ℕ → List ℕ

@@ -13,16 +13,15 @@ fn words(w: Words) {
     say::number(w.high as u64);
 }
 
-// What a default of a type says. Where the text would stand in a pool is 7, and its length there 5.
+// What a default of a type says. The text is taken to start at byte 7 of its pool.
 fn read(number: u32, value: &[u8]) {
     let known = runtime_type_box::type_of(number);
     let TypeRead::Known(t) = known else {
         say::text(b": no such type\n");
         return;
     };
-    let place = Words { low: 7, high: 5 };
     let r = runtime_type_box::from_proto_type(t);
-    let answer = runtime_type_box::parse_proto_default_value(r, value, place);
+    let answer = runtime_type_box::parse_proto_default_value(r, value, 7);
     match answer {
         DefaultRead::Integer(w) => {
             say::text(b": integer or bool");

@@ -8,10 +8,10 @@ fn identifier(s: &[u8]) {
     say::answer(bytes::is_identifier(s));
 }
 
-fn dotted(s: &[u8]) {
+fn identifier_list(s: &[u8]) {
     say::text(b"identifiers joined by dots ");
     say::quoted(s);
-    say::answer(bytes::is_dotted(s));
+    say::answer(bytes::is_identifier_list(s));
 }
 
 fn package(s: &[u8]) {
@@ -57,15 +57,15 @@ fn no_identifiers() {
     identifier(b"z{");
 }
 
-fn dotted_lists() {
-    dotted(b"a");
-    dotted(b"a.b._c1");
-    dotted(b"");
-    dotted(b".");
-    dotted(b".a");
-    dotted(b"a.");
-    dotted(b"a..b");
-    dotted(b"a.1b");
+fn identifier_lists() {
+    identifier_list(b"a");
+    identifier_list(b"a.b._c1");
+    identifier_list(b"");
+    identifier_list(b".");
+    identifier_list(b".a");
+    identifier_list(b"a.");
+    identifier_list(b"a..b");
+    identifier_list(b"a.1b");
 }
 
 fn packages() {
@@ -102,7 +102,7 @@ fn printables() {
 pub fn run() {
     identifiers();
     no_identifiers();
-    dotted_lists();
+    identifier_lists();
     packages();
     type_names();
     file_names();

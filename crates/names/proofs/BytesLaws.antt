@@ -11,7 +11,7 @@ use lib.Seq.{drop-cons}
 use borrow.Author.Tests.{eqb-true}
 use Rattle.lists.specs.Lists.{isEmpty, all, between}
 use Rattle.lists.proofs.Cases.{by, and-assoc, and-true}
-use Rattle.names.specs.Bytes.{startsIdentifier, continuesIdentifier, isIdentifier, onto, segments, isDotted, isPackage, isTypeName, isFileName}
+use Rattle.names.specs.Bytes.{startsIdentifier, continuesIdentifier, isIdentifier, onto, segments, isIdentifierList, isPackage, isTypeName, isFileName}
 
 pub identifier-none : (s : List ℕ) → length s ≡ 0 → isIdentifier s ≡ false
 unfolding isIdentifier
@@ -26,17 +26,17 @@ identifier-at (b ∷ s) h = refl
 -- ---- dotted lists, read a byte at a time
 
 -- what is left is right, where an identifier is to start (`true`) or has started (`false`)
-unfoldable pub dottedFrom : Bool → List ℕ → Bool
-dottedFrom fresh [] = not fresh
-dottedFrom true (b ∷ s) = startsIdentifier b && dottedFrom false s
-dottedFrom false (b ∷ s) = cond (eqb b 46) (dottedFrom true s) (continuesIdentifier b && dottedFrom false s)
+unfoldable pub listFrom : Bool → List ℕ → Bool
+listFrom fresh [] = not fresh
+listFrom true (b ∷ s) = startsIdentifier b && listFrom false s
+listFrom false (b ∷ s) = cond (eqb b 46) (listFrom true s) (continuesIdentifier b && listFrom false s)
 
-pub dotted-at : (t : Bool) (s : List ℕ) (i : ℕ) → i < length s → dottedFrom t (drop i s) ≡ dottedFrom t (getD s i 0 ∷ drop (i + 1) s)
-dotted-at t s i h = rw (add-one, drop-cons s i 0)
+pub list-at : (t : Bool) (s : List ℕ) (i : ℕ) → i < length s → listFrom t (drop i s) ≡ listFrom t (getD s i 0 ∷ drop (i + 1) s)
+list-at t s i h = rw (add-one, drop-cons s i 0)
 
-pub dotted-end : (t : Bool) (s : List ℕ) (i : ℕ) → length s ≤ i → dottedFrom t (drop i s) ≡ not t
-unfolding dottedFrom
-dotted-end t s i h = rw drop-of-length-le
+pub list-end : (t : Bool) (s : List ℕ) (i : ℕ) → length s ≤ i → listFrom t (drop i s) ≡ not t
+unfolding listFrom
+list-end t s i h = rw drop-of-length-le
 
 -- the segments that are left, where the first of them has started
 started : List (List ℕ) → Bool
@@ -54,18 +54,18 @@ fresh-onto b [] = sym (and-true (startsIdentifier b && true))
 fresh-onto b (p ∷ ps) = sym (and-assoc (startsIdentifier b) (all continuesIdentifier p) (all isIdentifier ps))
 
 -- the machine is the definition, from either state
-dotted-both : (s : List ℕ) → (dottedFrom true s ≡ all isIdentifier (segments s)) × (dottedFrom false s ≡ started (segments s))
-unfolding dottedFrom segments all isIdentifier started startsIdentifier
-dotted-both [] = (refl, refl)
-dotted-both (b ∷ s) =
-    let ih = dotted-both s in
+list-both : (s : List ℕ) → (listFrom true s ≡ all isIdentifier (segments s)) × (listFrom false s ≡ started (segments s))
+unfolding listFrom segments all isIdentifier started startsIdentifier
+list-both [] = (refl, refl)
+list-both (b ∷ s) =
+    let ih = list-both s in
     by (eqb b 46)
     (λ e. (simp (eqb-true b 46 e), simp e (ih .0)))
     (λ e. (simp (e, ih .1) (fresh-onto b (segments s)), simp (e, ih .1) (started-onto b (segments s))))
 
-pub dotted-whole : (s : List ℕ) → isDotted s ≡ dottedFrom true (drop 0 s)
-unfolding isDotted
-dotted-whole s = sym (dotted-both s .0)
+pub list-whole : (s : List ℕ) → isIdentifierList s ≡ listFrom true (drop 0 s)
+unfolding isIdentifierList
+list-whole s = sym (list-both s .0)
 
 -- ---- the rules that rest on these
 
@@ -74,7 +74,7 @@ unfolding isPackage isEmpty
 package-none [] h = refl
 package-none (b ∷ s) h = absurd (omega arith)
 
-pub package-some : (s : List ℕ) → (length s ≡ 0 → ⊥) → isPackage s ≡ isDotted s
+pub package-some : (s : List ℕ) → (length s ≡ 0 → ⊥) → isPackage s ≡ isIdentifierList s
 unfolding isPackage isEmpty
 package-some [] h = absurd (h refl)
 package-some (b ∷ s) h = refl
@@ -84,7 +84,7 @@ unfolding isTypeName
 type-name-none [] h = refl
 type-name-none (b ∷ s) h = absurd (omega arith)
 
-pub type-name-at : (s : List ℕ) → (length s ≡ 0 → ⊥) → isTypeName s ≡ eqb (getD s 0 0) 46 && isDotted (drop 1 s)
+pub type-name-at : (s : List ℕ) → (length s ≡ 0 → ⊥) → isTypeName s ≡ eqb (getD s 0 0) 46 && isIdentifierList (drop 1 s)
 unfolding isTypeName
 type-name-at [] h = absurd (h refl)
 type-name-at (b ∷ s) h = refl

@@ -10,10 +10,10 @@ use lib.Dec.{eqb}
 use lib.ListN.{length, getD, take, drop, set, length-append, drop-of-length-le}
 use lib.Seq.{drop-cons, take-all, length-take-le, take-suc-set, drop-set-lt, append-snoc}
 use borrow.Author.Tests.{ne-eqb, le-leb, lt-leb}
-use Rattle.lists.specs.Lists.{startsWith}
+use Rattle.lists.specs.Lists.{isPrefixOf}
 use Rattle.lists.specs.Splice.{splice, fronted}
 use Rattle.lists.proofs.Cases.{order, and-true, eqb-comm}
-use Rattle.lists.proofs.ListLaws.{starts-length, starts-append}
+use Rattle.lists.proofs.ListLaws.{prefix-length, prefix-append}
 use Rattle.lists.proofs.SpliceLaws.{splice-nil, fronted-fits}
 use Rattle.names.specs.Answers.{frontAnswer}
 use Rattle.names.specs.declared.name.Fronted.the-variants.{Written, TooShort}
@@ -102,24 +102,24 @@ lies-root (b ∷ s) (a ∷ p) h e z = absurd (omega arith)
 
 -- beneath a package: it, then a dot
 pub lies-at : (s p : List ℕ) → 0 < length s → getD s 0 0 ≡ 46 → (length p ≡ 0 → ⊥)
-    → liesBeneath s p ≡ startsWith p (drop 1 s) && startsWith (46 ∷ []) (drop (length p) (drop 1 s))
+    → liesBeneath s p ≡ isPrefixOf p (drop 1 s) && isPrefixOf (46 ∷ []) (drop (length p) (drop 1 s))
 unfolding liesBeneath
 lies-at [] p h e n = absurd (omega arith)
 lies-at (b ∷ s) [] h e n = absurd (n refl)
-lies-at (b ∷ s) (a ∷ p) h e n = rw e (starts-append (a ∷ p) (46 ∷ []) s)
+lies-at (b ∷ s) (a ∷ p) h e n = rw e (prefix-append (a ∷ p) (46 ∷ []) s)
 
-pub dot-short : (s : List ℕ) (n : ℕ) → length s ≤ n → startsWith (46 ∷ []) (drop n s) ≡ false
-unfolding startsWith
+pub dot-short : (s : List ℕ) (n : ℕ) → length s ≤ n → isPrefixOf (46 ∷ []) (drop n s) ≡ false
+unfolding isPrefixOf
 dot-short s n h = rw drop-of-length-le
 
-pub dot-at : (s : List ℕ) (n : ℕ) → n < length s → startsWith (46 ∷ []) (drop n s) ≡ eqb (getD s n 0) 46
-unfolding startsWith
+pub dot-at : (s : List ℕ) (n : ℕ) → n < length s → isPrefixOf (46 ∷ []) (drop n s) ≡ eqb (getD s n 0) 46
+unfolding isPrefixOf
 dot-at s n h = rw (drop-cons s n 0) (and-true (eqb 46 (getD s n 0)) ∙ eqb-comm 46 (getD s n 0))
 
 -- a name that lies beneath is as long as what stands in front
 pub lies-length : (s p : List ℕ) → liesBeneath s p ≡ true → length (leadOf p) ≤ length s
 unfolding liesBeneath
-lies-length s p e = starts-length (leadOf p) s e
+lies-length s p e = prefix-length (leadOf p) s e
 
 pub lead-root : (p : List ℕ) → length p ≡ 0 → length (leadOf p) ≡ 1
 unfolding leadOf

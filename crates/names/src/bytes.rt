@@ -1,7 +1,7 @@
 // The byte rules, and two texts compared.
 ghost use mathlib.Core.Path.{_≡_};
-ghost use Rattle.lists.specs.Lists.{between, all, same, startsWith};
-ghost use Rattle.names.specs.Bytes.{startsIdentifier, continuesIdentifier, isIdentifier, isDotted, isPackage, isTypeName, isFileName, isPrintable};
+ghost use Rattle.lists.specs.Lists.{between, all, same, isPrefixOf};
+ghost use Rattle.names.specs.Bytes.{startsIdentifier, continuesIdentifier, isIdentifier, isIdentifierList, isPackage, isTypeName, isFileName, isPrintable};
 
 // Whether `b` is one of the bytes from `lo` to `hi`.
 pub fn is_between(lo: u8, hi: u8, b: u8) -> bool
@@ -64,8 +64,8 @@ pub fn is_identifier(s: &[u8]) -> bool
 }
 
 // Whether `s` is identifiers joined by dots. `fresh` says that the next byte starts an identifier.
-pub fn is_dotted(s: &[u8]) -> bool
-    ensures { λ r. ⌜ r ≡ isDotted (now (s .entry)) ⌝ }
+pub fn is_identifier_list(s: &[u8]) -> bool
+    ensures { λ r. ⌜ r ≡ isIdentifierList (now (s .entry)) ⌝ }
 {
     let mut fresh = true;
     let mut i = 0;
@@ -92,7 +92,7 @@ pub fn is_package(s: &[u8]) -> bool
     if s.len() == 0 {
         return true;
     }
-    is_dotted(s)
+    is_identifier_list(s)
 }
 
 // Whether `s` may be a type name or an extendee.
@@ -105,7 +105,7 @@ pub fn is_type_name(s: &[u8]) -> bool
     if s[0] != 46 {
         return false;
     }
-    is_dotted(&s[1..])
+    is_identifier_list(&s[1..])
 }
 
 pub fn is_file_name(s: &[u8]) -> bool
@@ -142,8 +142,8 @@ pub fn same_bytes(s: &[u8], t: &[u8]) -> bool
 }
 
 // Whether `s` starts with `p`.
-pub fn starts_with(p: &[u8], s: &[u8]) -> bool
-    ensures { λ r. ⌜ r ≡ startsWith (now (p .entry)) (now (s .entry)) ⌝ }
+pub fn is_prefix_of(p: &[u8], s: &[u8]) -> bool
+    ensures { λ r. ⌜ r ≡ isPrefixOf (now (p .entry)) (now (s .entry)) ⌝ }
 {
     if s.len() < p.len() {
         return false;

@@ -6,7 +6,7 @@ ghost use Prim.Native.Nat.{_+_};
 ghost use lib.ListN.{length, drop};
 ghost use Rattle.lists.specs.Lists.{same};
 ghost use Rattle.lists.specs.Splice.{fronted};
-ghost use Rattle.names.specs.Json.{toUpper, casedByte, jsonName, underscores};
+ghost use Rattle.names.specs.Json.{toUpper, casedByte, derivedJsonName, leadingUnderscores};
 ghost use Rattle.names.specs.Answers.{frontAnswer};
 
 fn to_upper(b: u8) -> u8
@@ -22,9 +22,9 @@ fn cased_byte(up: bool, b: u8) -> u8
     if up { to_upper(b) } else { b }
 }
 
-// Whether `text` is the JSON name derived of `name`. `up` says that the byte before was an underscore.
+// Whether `text` is the JSON name derived from `name`. `up` says that the byte before was an underscore.
 pub fn is_json_name(name: &[u8], text: &[u8]) -> bool
-    ensures { λ r. ⌜ r ≡ same (jsonName (now (name .entry))) (now (text .entry)) ⌝ }
+    ensures { λ r. ⌜ r ≡ same (derivedJsonName (now (name .entry))) (now (text .entry)) ⌝ }
 {
     let mut up = false;
     let mut j = 0;
@@ -50,7 +50,7 @@ pub fn is_json_name(name: &[u8], text: &[u8]) -> bool
 
 // Where the first byte stands from `from` on that is no underscore; the end where there is none.
 fn past_underscores(s: &[u8], from: usize) -> usize
-    ensures { λ r. ⌜ r ≡ from + underscores (drop from (now (s .entry))) ⌝ }
+    ensures { λ r. ⌜ r ≡ from + leadingUnderscores (drop from (now (s .entry))) ⌝ }
 {
     let mut i = from;
     while i < s.len() {
@@ -64,7 +64,7 @@ fn past_underscores(s: &[u8], from: usize) -> usize
 
 // Whether `name` and `other` have the same derived JSON name.
 pub fn same_json_names(name: &[u8], other: &[u8]) -> bool
-    ensures { λ r. ⌜ r ≡ same (jsonName (now (name .entry))) (jsonName (now (other .entry))) ⌝ }
+    ensures { λ r. ⌜ r ≡ same (derivedJsonName (now (name .entry))) (derivedJsonName (now (other .entry))) ⌝ }
 {
     let mut i = 0;
     let mut j = 0;
@@ -87,7 +87,7 @@ pub fn same_json_names(name: &[u8], other: &[u8]) -> bool
 
 // How long the derived JSON name is.
 fn json_length(name: &[u8]) -> usize
-    ensures { λ r. ⌜ r ≡ length (jsonName (now (name .entry))) ⌝ }
+    ensures { λ r. ⌜ r ≡ length (derivedJsonName (now (name .entry))) ⌝ }
 {
     let mut n = 0;
     let mut i = 0;
@@ -102,8 +102,8 @@ fn json_length(name: &[u8]) -> usize
 
 // Writes the derived JSON name to the front of `out`, or nothing where it has no room.
 pub fn write_json_name(out: &mut [u8], name: &[u8]) -> Fronted
-    ensures { λ r. ⌜ r ≡ frontAnswer (now (out .entry)) (jsonName (now (name .entry))) ⌝ }
-    ensures { λ r. ⌜ now (out .exit) ≡ fronted (now (out .entry)) (jsonName (now (name .entry))) ⌝ }
+    ensures { λ r. ⌜ r ≡ frontAnswer (now (out .entry)) (derivedJsonName (now (name .entry))) ⌝ }
+    ensures { λ r. ⌜ now (out .exit) ≡ fronted (now (out .entry)) (derivedJsonName (now (name .entry))) ⌝ }
 {
     let n = json_length(name);
     if out.len() < n {

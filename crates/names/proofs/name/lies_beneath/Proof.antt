@@ -29,8 +29,8 @@ returns-4 c =
     let b = c .before .before .before in
     let a = b .before .before .before .before .before .before .args in
     let h : 0 < length (a .name .now) = omega arith in
-    let e = simp part-all at (c .before .starts-with .ensures) in
-    simp (lies-at (a .name .now) (a .package .now) h (b .before .if2 .left) (b .if3 .left), ← e, not-true (c .before .starts-with .result) (c .if4 .taken))
+    let e = simp part-all at (c .before .is-prefix-of .ensures) in
+    simp (lies-at (a .name .now) (a .package .now) h (b .before .if2 .left) (b .if3 .left), ← e, not-true (c .before .is-prefix-of .result) (c .if4 .taken))
 
 returns-5 : tie.Need-returns-5
 returns-5 c =
@@ -45,9 +45,9 @@ returns-6 c =
     let b = c .before .before .before .before .before in
     let a = b .before .before .before .before .before .before .args in
     let h : 0 < length (a .name .now) = omega arith in
-    let e = simp part-all at (c .before .before .before .starts-with .ensures) in
+    let e = simp part-all at (c .before .before .before .is-prefix-of .ensures) in
     let k : length (a .package .now) < length (drop 1 (a .name .now)) = simp part-all at (c .before .if5 .left) in
-    simp (lies-at (a .name .now) (a .package .now) h (b .before .if2 .left) (b .if3 .left), part-all, ← e, not-false (c .before .before .before .starts-with .result) (c .before .before .if4 .left), dot-at, k)
+    simp (lies-at (a .name .now) (a .package .now) h (b .before .if2 .left) (b .if3 .left), part-all, ← e, not-false (c .before .before .before .is-prefix-of .result) (c .before .before .if4 .left), dot-at, k)
 
 pub lies-beneath-spec : {M : Type 1} → statement M
 lies-beneath-spec =

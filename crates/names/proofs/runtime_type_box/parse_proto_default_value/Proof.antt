@@ -26,7 +26,7 @@ returns-5 c = rw (c .before .enum-told5 .given .1) (c .unsigned-default2 .ensure
 
 returns-6 : tie.Need-returns-6
 unfolding defaultOf
-returns-6 c = rw (c .enum-told6 .given .1)
+returns-6 c = rw (c .before .enum-told6 .given .1) (c .text-default .ensures)
 
 returns-7 : tie.Need-returns-7
 unfolding defaultOf
@@ -63,6 +63,7 @@ parse-proto-default-value-spec =
     (λ c. search needs)
     (λ c κs. search needs)
     (λ c. search needs)
+    (λ c κs. search needs)
     (λ c. search needs)
     (λ c. search needs)
     (λ c. search needs)
