@@ -7,7 +7,7 @@ use native.Mathlib.Nat.{zero-add}
 use native.Mathlib.Numerals.{add-one}
 use native.Mathlib.Omega.{arith}
 use Rattle.lists.specs.Below.{bit, anyBelow, allBelow, countBelow, firstBelow, lastBelow}
-use Rattle.lists.proofs.Cases.{by, either, clash, last, both, left, right}
+use Rattle.lists.proofs.Cases.{order, by, either, clash, last, both, left, right}
 
 -- no i below n has p i
 abbrev pub None : ℕ → (ℕ → Bool) → Type 0
@@ -110,6 +110,14 @@ pub count-le : (n : ℕ) (p : ℕ → Bool) → countBelow n p ≤ n
 unfolding countBelow
 count-le zero p = omega arith
 count-le (suc n) p = let ih = count-le n p in by (p n) (λ t. simp t (omega arith)) (λ t. simp t (omega arith))
+
+pub count-grows : (m n : ℕ) (p : ℕ → Bool) → m ≤ n → countBelow m p ≤ countBelow n p
+unfolding countBelow
+count-grows m zero p h = let e : m ≡ 0 = omega arith in rw e (omega arith)
+count-grows m (suc n) p h =
+    order n m
+    (λ l. let e : m ≡ suc n = omega arith in rw e (omega arith))
+    (λ l. let ih = count-grows m n p l in omega arith)
 
 pub count-mono : (n : ℕ) (p q : ℕ → Bool) → ((i : ℕ) → i < n → p i ≡ true → q i ≡ true) → countBelow n p ≤ countBelow n q
 unfolding countBelow

@@ -1,0 +1,186 @@
+//! The oracle: runs the crate protobuf 3.7.2 on file images.
+
+mod answers;
+mod case;
+mod compare;
+mod damage;
+mod domain;
+mod image;
+mod index;
+mod limits;
+mod link;
+mod make;
+mod makers;
+mod protoc;
+mod purpose;
+mod random;
+mod real;
+mod rng;
+mod show;
+mod stored;
+mod tree;
+
+use std::io::Write;
+use std::process::ExitCode;
+
+use case::Case;
+
+const USAGE: &str = "usage: oracle cases real|random|purpose|limits|damage [--seed N] [--count N] [-o FILE]
+       oracle compile FILES PROTOC OUT
+       oracle stored DIR
+       oracle answers CASES [-o FILE]
+       oracle compare CASES CRATE_ANSWERS OUR_ANSWERS [--keep FILE]
+       oracle show CASES NAME";
+
+/// What a command comes to: nothing wrong, or differences found.
+enum Outcome {
+    Good,
+    Differences,
+}
+
+fn main() -> ExitCode {
+    let args: Vec<String> = std::env::args().skip(1).collect();
+    match on_a_deep_stack(move || run(&args)) {
+        Ok(Outcome::Good) => ExitCode::SUCCESS,
+        Ok(Outcome::Differences) => ExitCode::from(1),
+        Err(text) => {
+            eprintln!("oracle: {text}");
+            ExitCode::from(2)
+        }
+    }
+}
+
+/// A descriptor nests as deep as its image says, and is walked by functions that call themselves.
+fn on_a_deep_stack(
+    work: impl FnOnce() -> Result<Outcome, String> + Send + 'static,
+) -> Result<Outcome, String> {
+    let builder = std::thread::Builder::new().stack_size(answers::STACK);
+    let worker = builder.spawn(work).map_err(|e| format!("no thread to work in: {e}"))?;
+    worker.join().unwrap_or_else(|_| Err("the oracle itself panicked".to_owned()))
+}
+
+fn run(args: &[String]) -> Result<Outcome, String> {
+    let Some((command, rest)) = args.split_first() else {
+        return Err(format!("no command\n{USAGE}"));
+    };
+    match command.as_str() {
+        "cases" => cases(rest),
+        "compile" => compile(rest),
+        "answers" => answers(rest),
+        "compare" => compare(rest),
+        "show" => show(rest),
+        "stored" => stored(rest),
+        other => Err(format!("there is no command `{other}`\n{USAGE}")),
+    }
+}
+
+/// Takes `flag VALUE` out of the arguments; what is left are plain ones.
+fn take_option(args: &[String], flag: &str) -> Result<(Vec<String>, Option<String>), String> {
+    let mut plain = args.to_vec();
+    let Some(at) = plain.iter().position(|a| a == flag) else {
+        return Ok((plain, None));
+    };
+    if at + 1 == plain.len() {
+        return Err(format!("{flag} needs a value\n{USAGE}"));
+    }
+    let value = plain.remove(at + 1);
+    plain.remove(at);
+    Ok((plain, Some(value)))
+}
+
+fn take_number<T: std::str::FromStr>(args: &[String], flag: &str) -> Result<(Vec<String>, Option<T>), String> {
+    let (plain, value) = take_option(args, flag)?;
+    let wrong = |text: &String| format!("{flag} needs a number, not `{text}`\n{USAGE}");
+    let number = value.map(|text| text.parse().map_err(|_| wrong(&text))).transpose()?;
+    Ok((plain, number))
+}
+
+/// Exactly so many plain arguments.
+fn plain<const N: usize>(args: Vec<String>) -> Result<[String; N], String> {
+    let count = args.len();
+    args.try_into().map_err(|_| format!("{N} arguments are wanted, not {count}\n{USAGE}"))
+}
+
+fn read(path: &str) -> Result<String, String> {
+    std::fs::read_to_string(path).map_err(|e| format!("{path}: {e}"))
+}
+
+fn read_cases(path: &str) -> Result<Vec<Case>, String> {
+    case::read_cases(&read(path)?).map_err(|e| format!("{path}: {e}"))
+}
+
+/// Writes to the file, or to the standard output if there is none.
+fn write(path: Option<&str>, text: &str) -> Result<(), String> {
+    match path {
+        Some(path) => std::fs::write(path, text).map_err(|e| format!("{path}: {e}")),
+        None => std::io::stdout().write_all(text.as_bytes()).map_err(|e| format!("standard output: {e}")),
+    }
+}
+
+fn cases(args: &[String]) -> Result<Outcome, String> {
+    let (args, output) = take_option(args, "-o")?;
+    let (args, seed) = take_number(&args, "--seed")?;
+    let (args, count) = take_number(&args, "--count")?;
+    let [kind] = plain(args)?;
+    let (cases, line) = makers::make(&kind, seed, count)?;
+    write(output.as_deref(), &case::write_cases(&cases))?;
+    eprintln!("{line}");
+    Ok(Outcome::Good)
+}
+
+fn compile(args: &[String]) -> Result<Outcome, String> {
+    let [files, protoc, out] = plain(args.to_vec())?;
+    println!("{}", protoc::compile(files.as_ref(), protoc.as_ref(), out.as_ref())?);
+    Ok(Outcome::Good)
+}
+
+fn answers(args: &[String]) -> Result<Outcome, String> {
+    let (args, output) = take_option(args, "-o")?;
+    let [path] = plain(args)?;
+    let (answers, tally) = answers::answer_all(&read_cases(&path)?)?;
+    write(output.as_deref(), &case::write_answers(&answers))?;
+    eprintln!(
+        "{} cases: {} files accepted ({} of them by the public interface alone), {} failed, {} panicked, {} not asked",
+        answers.len(),
+        tally.accepted,
+        tally.without_index,
+        tally.failed,
+        tally.panicked,
+        tally.skipped
+    );
+    Ok(Outcome::Good)
+}
+
+fn compare(args: &[String]) -> Result<Outcome, String> {
+    let (args, keep) = take_option(args, "--keep")?;
+    let [case_path, crate_path, our_path] = plain(args)?;
+    let cases = read_cases(&case_path)?;
+    let read_answers = |path: &str| case::read_answers(&read(path)?).map_err(|e| format!("{path}: {e}"));
+    let report = compare::compare(&cases, &read_answers(&crate_path)?, &read_answers(&our_path)?)?;
+    for line in &report.lines {
+        println!("{line}");
+    }
+    println!("{}", report.summary());
+    let Some(smallest) = report.smallest else { return Ok(Outcome::Good) };
+    if let Some(path) = keep {
+        write(Some(&path), &case::write_cases(&cases[smallest..=smallest]))?;
+        println!("the smallest differing case, `{}`, is in {path}", cases[smallest].name);
+    }
+    Ok(Outcome::Differences)
+}
+
+fn show(args: &[String]) -> Result<Outcome, String> {
+    let [path, name] = plain(args.to_vec())?;
+    let cases = read_cases(&path)?;
+    let Some(case) = cases.iter().find(|c| c.name == name) else {
+        return Err(format!("{path} has no case `{name}`"));
+    };
+    write(None, &show::show(case)?)?;
+    Ok(Outcome::Good)
+}
+
+fn stored(args: &[String]) -> Result<Outcome, String> {
+    let [folder] = plain(args.to_vec())?;
+    eprintln!("{}", stored::write(folder.as_ref())?);
+    Ok(Outcome::Good)
+}
