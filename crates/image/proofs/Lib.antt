@@ -1,0 +1,4 @@
+pub mod RowLaws
+pub mod OwnerLaws
+pub mod RangeLaws
+pub mod FewLaws

@@ -1,0 +1,45 @@
+-- `image::owners::messages_owned` meets its contract. Assumes nothing.
+use borrow.Author.Needs.{needs}
+use native.Mathlib.Omega.{arith}
+use mathlib.Core.Path.{_≡_, sym}
+use lib.ListN.{length, take}
+use lib.Seq.{length-take-le}
+use borrow.Author.Tests.{leb-true}
+use Rattle.lists.proofs.Cases.{each}
+use Rattle.image.specs.Words.{topMessages}
+use Rattle.image.specs.Layout.{fileTests, fileRangesFit, ownedOnce}
+use Rattle.image.specs.declared.rows.Kind.the-variants.{Message}
+use Rattle.image.proofs.RangeLaws.{held-messages}
+use Rattle.image.proofs.owners.messages_owned.Statement.{statement}
+use Rattle.image.proofs.owners.messages_owned.Tie as tie
+
+-- the marks of the rows
+size : (c : tie.Start) → length (take (c .args .s .messages .count) (c .args .marks .now)) ≡ c .args .s .messages .count
+size c = length-take-le (c .args .s .messages .count) (c .args .marks .now) (omega (arith, c .pre .0 .few Message, c .pre .1))
+
+owned-requires : tie.Need-owned-requires
+unfolding fileRangesFit
+owned-requires c κs =
+    let start = c .before .before .before .before .before .before in
+    let top = leb-true (topMessages (start .args .image .now)) (start .args .s .messages .count) (each (fileTests (start .args .image .now) (start .args .s)) (start .pre .0 .files) .0) in
+    (rw (size start, c .before .from-first .ensures, c .before .before .trailer-word .ensures) (omega arith), rw (size start) (held-messages (start .args .image .now) (start .args .s) (start .args .pool) (start .pre .0 .messages)))
+
+returns : tie.Need-returns
+unfolding ownedOnce
+returns c =
+    let f = c .before .before .before .before in
+    let start = f .before .before .before .before .before in
+    rw (size start, f .from-first .ensures, f .before .trailer-word .ensures) at (c .before .before .owned .ensures)
+
+pub messages-owned-spec : {M : Type 1} → statement M
+messages-owned-spec =
+    tie.close
+    (tie.spec
+    (λ c. search needs)
+    (λ c κs. search needs)
+    (λ c κs. search needs)
+    (λ c. let start = c .before .before .before .before .before in omega (arith, start .pre .0 .few Message, start .pre .1))
+    (λ c. sym (size (c .before .before .before .before .before .before)))
+    owned-requires
+    (λ c. search needs)
+    returns)
