@@ -64,7 +64,14 @@ pub fn write_cases(cases: &[Case]) -> String {
                 Expect::RefusedAt(n, p) => format!("refused-at {n} {p}"),
                 Expect::Any => "any".to_owned(),
             };
-            writeln!(out, "file {} {} {}", f.image.words.len(), f.image.pool.len(), expect).unwrap();
+            writeln!(
+                out,
+                "file {} {} {}",
+                f.image.words.len(),
+                f.image.pool.len(),
+                expect
+            )
+            .unwrap();
             numbers(&mut out, f.image.words.iter().map(|w| w.to_string()));
             numbers(&mut out, f.image.pool.iter().map(|b| b.to_string()));
         }
@@ -95,7 +102,12 @@ pub fn write_answers(all: &[CaseAnswers]) -> String {
             match a {
                 Answer::Accepted(words) => {
                     writeln!(out, "accepted {}", words.len()).unwrap();
-                    numbers(&mut out, words.iter().map(|w| w.map_or("-".to_owned(), |w| w.to_string())));
+                    numbers(
+                        &mut out,
+                        words
+                            .iter()
+                            .map(|w| w.map_or("-".to_owned(), |w| w.to_string())),
+                    );
                 }
                 Answer::Refused(n, p) => writeln!(out, "refused {n} {p}").unwrap(),
                 Answer::Failed(text) => writeln!(out, "failed # {}", one_line(text)).unwrap(),
@@ -108,7 +120,9 @@ pub fn write_answers(all: &[CaseAnswers]) -> String {
 }
 
 fn one_line(text: &str) -> String {
-    text.chars().map(|c| if c.is_control() { ' ' } else { c }).collect()
+    text.chars()
+        .map(|c| if c.is_control() { ' ' } else { c })
+        .collect()
 }
 
 /// A reader of tokens that keeps the comment of the line it is on.
@@ -121,7 +135,12 @@ pub struct Tokens<'a> {
 
 impl<'a> Tokens<'a> {
     pub fn new(text: &'a str) -> Self {
-        Tokens { lines: text.lines().enumerate(), number: 0, rest: "".split_whitespace(), comment: "" }
+        Tokens {
+            lines: text.lines().enumerate(),
+            number: 0,
+            rest: "".split_whitespace(),
+            comment: "",
+        }
     }
 
     pub fn next(&mut self) -> Option<&'a str> {
@@ -142,18 +161,25 @@ impl<'a> Tokens<'a> {
     }
 
     fn word(&mut self) -> Result<&'a str, String> {
-        self.next().ok_or_else(|| "the text ends too early".to_owned())
+        self.next()
+            .ok_or_else(|| "the text ends too early".to_owned())
     }
 
     fn number<T: std::str::FromStr>(&mut self) -> Result<T, String> {
         let t = self.word()?;
-        t.parse().map_err(|_| self.wrong(&format!("`{t}` is no number that fits")))
+        t.parse()
+            .map_err(|_| self.wrong(&format!("`{t}` is no number that fits")))
     }
 }
 
-pub fn read_cases(text: &str) -> Result<Vec<Case>, String> {
+/// The cases of a text, each with what `read` makes of its files or answers.
+fn read_all<T, R>(
+    text: &str,
+    read: impl Fn(&mut Tokens) -> Result<T, String>,
+    make: impl Fn(String, Vec<T>) -> R,
+) -> Result<Vec<R>, String> {
     let mut t = Tokens::new(text);
-    let mut cases = Vec::new();
+    let mut all = Vec::new();
     while let Some(head) = t.next() {
         if head != "case" {
             return Err(t.wrong(&format!("`case` is wanted, not `{head}`")));
@@ -162,11 +188,15 @@ pub fn read_cases(text: &str) -> Result<Vec<Case>, String> {
         let count: usize = t.number()?;
         let mut files = Vec::new();
         for _ in 0..count {
-            files.push(read_file(&mut t)?);
+            files.push(read(&mut t)?);
         }
-        cases.push(Case { name, files });
+        all.push(make(name, files));
     }
-    Ok(cases)
+    Ok(all)
+}
+
+pub fn read_cases(text: &str) -> Result<Vec<Case>, String> {
+    read_all(text, read_file, |name, files| Case { name, files })
 }
 
 fn read_file(t: &mut Tokens) -> Result<FileCase, String> {
@@ -193,21 +223,7 @@ fn read_file(t: &mut Tokens) -> Result<FileCase, String> {
 }
 
 pub fn read_answers(text: &str) -> Result<Vec<CaseAnswers>, String> {
-    let mut t = Tokens::new(text);
-    let mut all = Vec::new();
-    while let Some(head) = t.next() {
-        if head != "case" {
-            return Err(t.wrong(&format!("`case` is wanted, not `{head}`")));
-        }
-        let name = t.word()?.to_owned();
-        let count: usize = t.number()?;
-        let mut files = Vec::new();
-        for _ in 0..count {
-            files.push(read_answer(&mut t)?);
-        }
-        all.push(CaseAnswers { name, files });
-    }
-    Ok(all)
+    read_all(text, read_answer, |name, files| CaseAnswers { name, files })
 }
 
 fn read_answer(t: &mut Tokens) -> Result<Answer, String> {
@@ -217,7 +233,14 @@ fn read_answer(t: &mut Tokens) -> Result<Answer, String> {
             let mut words = Vec::new();
             for _ in 0..n {
                 let w = t.word()?;
-                words.push(if w == "-" { None } else { Some(w.parse().map_err(|_| t.wrong(&format!("`{w}` is no word")))?) });
+                words.push(if w == "-" {
+                    None
+                } else {
+                    Some(
+                        w.parse()
+                            .map_err(|_| t.wrong(&format!("`{w}` is no word")))?,
+                    )
+                });
             }
             Answer::Accepted(words)
         }
@@ -235,19 +258,39 @@ mod test {
 
     #[test]
     fn what_is_written_is_read() {
-        let image = Image { words: (0..40).collect(), pool: b"fA".to_vec() };
-        let file = |expect| FileCase { image: image.clone(), expect };
-        let cases = vec![Case { name: "a".into(), files: vec![file(Expect::Domain), file(Expect::RefusedAt(9, 2)), file(Expect::Any)] }];
+        let image = Image {
+            words: (0..40).collect(),
+            pool: b"fA".to_vec(),
+        };
+        let file = |expect| FileCase {
+            image: image.clone(),
+            expect,
+        };
+        let cases = vec![Case {
+            name: "a".into(),
+            files: vec![
+                file(Expect::Domain),
+                file(Expect::RefusedAt(9, 2)),
+                file(Expect::Any),
+            ],
+        }];
         assert_eq!(read_cases(&write_cases(&cases)), Ok(cases));
         let answers = vec![CaseAnswers {
             name: "a".into(),
-            files: vec![Answer::Accepted(vec![Some(1), None]), Answer::Refused(4, 0), Answer::Failed("no such thing".into())],
+            files: vec![
+                Answer::Accepted(vec![Some(1), None]),
+                Answer::Refused(4, 0),
+                Answer::Failed("no such thing".into()),
+            ],
         }];
         assert_eq!(read_answers(&write_answers(&answers)), Ok(answers));
     }
 
     #[test]
     fn a_wrong_token_is_named_with_its_line() {
-        assert_eq!(read_cases("case a 1\nfile 1 0 domain\nx"), Err("line 3: `x` is no number that fits".to_owned()));
+        assert_eq!(
+            read_cases("case a 1\nfile 1 0 domain\nx"),
+            Err("line 3: `x` is no number that fits".to_owned())
+        );
     }
 }

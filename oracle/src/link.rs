@@ -88,6 +88,16 @@ pub struct View {
 }
 
 impl View {
+    /// How many messages, enums, oneofs and fields there are.
+    fn counts(&self) -> [usize; 4] {
+        [
+            self.messages.len(),
+            self.enums.len(),
+            self.oneofs.len(),
+            self.fields.len(),
+        ]
+    }
+
     pub fn of(file: &FileDescriptor) -> View {
         let mut view = View {
             file: file.clone(),
@@ -193,16 +203,7 @@ impl<'a> Linked<'a> {
             rows.oneofs.len(),
             rows.fields.len(),
         ];
-        same(
-            "counts",
-            counts,
-            [
-                view.messages.len(),
-                view.enums.len(),
-                view.oneofs.len(),
-                view.fields.len(),
-            ],
-        )?;
+        same("counts", counts, view.counts())?;
         for (row, m) in rows.messages.iter().zip(&view.messages) {
             same(
                 "message name",
@@ -249,16 +250,7 @@ impl<'a> Linked<'a> {
             index.oneofs.len(),
             index.fields.len(),
         ];
-        same(
-            "counts",
-            counts,
-            [
-                view.messages.len(),
-                view.enums.len(),
-                view.oneofs.len(),
-                view.fields.len(),
-            ],
-        )?;
+        same("counts", counts, view.counts())?;
         same(
             "first file extension",
             index.first_extension,

@@ -10,7 +10,7 @@ const SEED: u64 = 1;
 const COUNT: usize = 4000;
 
 /// Where oracle/real leaves the compiled schemas.
-const REAL: &str = concat!(env!("CARGO_MANIFEST_DIR"), "/work/real");
+const REAL: &str = concat!(env!("CARGO_MANIFEST_DIR"), "/compiled/real");
 
 /// The cases of a kind, and a line on them. Seed and count are for random and damaged ones; real ones take the seed for their shuffling.
 pub fn make(
