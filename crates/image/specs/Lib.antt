@@ -1,3 +1,4 @@
 pub mod Words
 pub mod Layout
 pub mod Marks
+pub mod Texts

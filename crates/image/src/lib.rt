@@ -5,3 +5,4 @@
 pub mod layout;
 mod owners;
 pub mod rows;
+pub mod texts;

@@ -1,5 +1,7 @@
-// Runs rule 3, the layout of an image, on an image with a row of every kind and on changes of one word of it, and prints what it answers.
+// Runs rule 3, the layout of an image, and rule 5, its texts, on an image with a row of every kind and on changes of it, and prints what
+// they answer.
 use image::layout;
+use image::texts;
 use libc::STDOUT_FILENO;
 
 // An import; a message A with a nested B, an enum, a oneof, a field and an extension; a file extension. The pool has 2 bytes.
@@ -230,6 +232,44 @@ fn more_fields() {
     show(b"proto3_optional 2", 55, 2);
 }
 
+fn texts_answer(label: &[u8], yes: bool) {
+    io::write_all(STDOUT_FILENO, label);
+    if yes {
+        io::write_all(STDOUT_FILENO, b": texts in order\n");
+    } else {
+        io::write_all(STDOUT_FILENO, b": refused, 5\n");
+    }
+}
+
+// The texts of the image with one word changed, over a pool of two bytes.
+fn show_texts(label: &[u8], pool: &[u8], at: usize, word: u32) {
+    let image = changed(at, word);
+    texts_answer(label, texts::are_texts_right(&image, pool));
+}
+
+fn pools() {
+    show_texts(b"pool `ab`", b"ab", 0, 0);
+    show_texts(b"pool `_Z`", b"_Z", 0, 0);
+    show_texts(b"pool `1b`, a name starts with a digit", b"1b", 0, 0);
+    show_texts(b"pool `a `, the file name has a blank", b"a ", 0, 0);
+}
+
+fn missing() {
+    show_texts(b"no file name", b"ab", 90, 0);
+    show_texts(b"package `a`", b"ab", 92, 1);
+    show_texts(b"package `.`", b"a.", 92, 2);
+    show_texts(b"an import without a name", b"ab", 1, 0);
+    show_texts(b"a value without a name", b"ab", 36, 0);
+    show_texts(b"int32 with a type name that is none", b"ab", 46, 1);
+    show_texts(b"message without a type name", b"ab", 44, 11);
+}
+
+fn field_texts() {
+    show_texts(b"extendee `a`", b"ab", 48, 1);
+    show_texts(b"JSON name of byte 31", b"a\x1f", 49, 1);
+    show_texts(b"default `a`, given", b"ab", 53, 1);
+}
+
 fn main() {
     whole();
     trailer();
@@ -239,4 +279,7 @@ fn main() {
     others();
     fields();
     more_fields();
+    pools();
+    missing();
+    field_texts();
 }
