@@ -267,7 +267,8 @@ fn missing() {
 fn field_texts() {
     show_texts(b"extendee `a`", b"ab", 48, 1);
     show_texts(b"JSON name of byte 31", b"a\x1f", 49, 1);
-    show_texts(b"default `a`, given", b"ab", 53, 1);
+    show_texts(b"default `a`, not given", b"ab", 53, 1);
+    show_texts(b"empty default, given", b"ab", 51, 1);
 }
 
 fn main() {
