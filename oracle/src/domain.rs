@@ -506,6 +506,19 @@ pub fn derived_json_name(name: &str) -> String {
     out
 }
 
+/// What cases say by hand and what is judged of their descriptors agree, wherever an image has a descriptor.
+#[cfg(test)]
+pub fn agrees_with(cases: &[crate::case::Case]) {
+    for case in cases {
+        let mut shelf = Shelf::default();
+        for f in &case.files {
+            if let Ok(proto) = crate::image::decode(&f.image) {
+                assert_eq!(shelf.link(&proto, &f.image), f.expect, "{}", case.name);
+            }
+        }
+    }
+}
+
 #[cfg(test)]
 mod test {
     use super::*;

@@ -1021,19 +1021,8 @@ fn distance_row() -> Case {
 
 #[cfg(test)]
 mod test {
-    use super::*;
-    use crate::domain::Shelf;
-
-    /// What is said by hand and what is judged of the descriptors agree, wherever an image has a descriptor.
     #[test]
     fn by_hand_and_judged_agree() {
-        for case in cases() {
-            let mut shelf = Shelf::default();
-            for f in &case.files {
-                if let Ok(proto) = image::decode(&f.image) {
-                    assert_eq!(shelf.link(&proto, &f.image), f.expect, "{}", case.name);
-                }
-            }
-        }
+        crate::domain::agrees_with(&super::cases());
     }
 }

@@ -3,18 +3,17 @@ use borrow.Author.Needs.{needs}
 use native.Mathlib.Omega.{arith}
 use mathlib.Core.Path.{_≡_, sym}
 use lib.ListN.{length, take}
-use lib.Seq.{length-take-le}
 use Rattle.lists.proofs.Cases.{each}
 use Rattle.image.specs.Words.{fileExtensions}
 use Rattle.image.specs.Layout.{fileTests, fileRangesFit, ownedOnce}
 use Rattle.image.specs.declared.rows.Kind.the-variants.{Field}
-use Rattle.image.proofs.RangeLaws.{range-inside, held-fields, held-extensions}
+use Rattle.image.proofs.RangeLaws.{range-inside, held-fields, held-extensions, marks-of}
 use Rattle.image.proofs.owners.all_fields_owned.Statement.{statement}
 use Rattle.image.proofs.owners.all_fields_owned.Tie as tie
 
 -- the marks of the rows
 size : (c : tie.Start) → length (take (c .args .s .fields .count) (c .args .marks .now)) ≡ c .args .s .fields .count
-size c = length-take-le (c .args .s .fields .count) (c .args .marks .now) (omega (arith, c .pre .0 .few Field, c .pre .1))
+size c = marks-of (c .args .image .now) (c .args .s) (c .args .pool) (c .args .marks .now) (c .pre .0) (c .pre .1) Field
 
 fields-owned-requires : tie.Need-fields-owned-requires
 unfolding fileRangesFit

@@ -3,19 +3,18 @@ use borrow.Author.Needs.{needs}
 use native.Mathlib.Omega.{arith}
 use mathlib.Core.Path.{_≡_, sym}
 use lib.ListN.{length, take}
-use lib.Seq.{length-take-le}
 use borrow.Author.Tests.{leb-true}
 use Rattle.lists.proofs.Cases.{each}
 use Rattle.image.specs.Words.{topEnums}
 use Rattle.image.specs.Layout.{fileTests, fileRangesFit, ownedOnce}
 use Rattle.image.specs.declared.rows.Kind.the-variants.{Enum}
-use Rattle.image.proofs.RangeLaws.{held-enums}
+use Rattle.image.proofs.RangeLaws.{held-enums, marks-of}
 use Rattle.image.proofs.owners.enums_owned.Statement.{statement}
 use Rattle.image.proofs.owners.enums_owned.Tie as tie
 
 -- the marks of the rows
 size : (c : tie.Start) → length (take (c .args .s .enums .count) (c .args .marks .now)) ≡ c .args .s .enums .count
-size c = length-take-le (c .args .s .enums .count) (c .args .marks .now) (omega (arith, c .pre .0 .few Enum, c .pre .1))
+size c = marks-of (c .args .image .now) (c .args .s) (c .args .pool) (c .args .marks .now) (c .pre .0) (c .pre .1) Enum
 
 owned-requires : tie.Need-owned-requires
 unfolding fileRangesFit

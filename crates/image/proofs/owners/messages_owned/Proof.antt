@@ -3,19 +3,18 @@ use borrow.Author.Needs.{needs}
 use native.Mathlib.Omega.{arith}
 use mathlib.Core.Path.{_≡_, sym}
 use lib.ListN.{length, take}
-use lib.Seq.{length-take-le}
 use borrow.Author.Tests.{leb-true}
 use Rattle.lists.proofs.Cases.{each}
 use Rattle.image.specs.Words.{topMessages}
 use Rattle.image.specs.Layout.{fileTests, fileRangesFit, ownedOnce}
 use Rattle.image.specs.declared.rows.Kind.the-variants.{Message}
-use Rattle.image.proofs.RangeLaws.{held-messages}
+use Rattle.image.proofs.RangeLaws.{held-messages, marks-of}
 use Rattle.image.proofs.owners.messages_owned.Statement.{statement}
 use Rattle.image.proofs.owners.messages_owned.Tie as tie
 
 -- the marks of the rows
 size : (c : tie.Start) → length (take (c .args .s .messages .count) (c .args .marks .now)) ≡ c .args .s .messages .count
-size c = length-take-le (c .args .s .messages .count) (c .args .marks .now) (omega (arith, c .pre .0 .few Message, c .pre .1))
+size c = marks-of (c .args .image .now) (c .args .s) (c .args .pool) (c .args .marks .now) (c .pre .0) (c .pre .1) Message
 
 owned-requires : tie.Need-owned-requires
 unfolding fileRangesFit

@@ -3,17 +3,16 @@ use borrow.Author.Needs.{needs}
 use native.Mathlib.Omega.{arith}
 use mathlib.Core.Path.{_≡_, sym, _∙_}
 use lib.ListN.{length, take}
-use lib.Seq.{length-take-le}
 use Rattle.image.specs.Words.{oneofsOf}
 use Rattle.image.specs.Layout.{holders, ownedOnce}
 use Rattle.image.specs.declared.rows.Kind.the-variants.{Oneof}
-use Rattle.image.proofs.RangeLaws.{held-oneofs, own-none}
+use Rattle.image.proofs.RangeLaws.{held-oneofs, own-none, marks-of}
 use Rattle.image.proofs.owners.oneofs_owned.Statement.{statement}
 use Rattle.image.proofs.owners.oneofs_owned.Tie as tie
 
 -- the marks of the rows
 size : (c : tie.Start) → length (take (c .args .s .oneofs .count) (c .args .marks .now)) ≡ c .args .s .oneofs .count
-size c = length-take-le (c .args .s .oneofs .count) (c .args .marks .now) (omega (arith, c .pre .0 .few Oneof, c .pre .1))
+size c = marks-of (c .args .image .now) (c .args .s) (c .args .pool) (c .args .marks .now) (c .pre .0) (c .pre .1) Oneof
 
 owned-requires : tie.Need-owned-requires
 owned-requires c κs =

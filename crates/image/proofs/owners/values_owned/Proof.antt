@@ -3,18 +3,17 @@ use borrow.Author.Needs.{needs}
 use native.Mathlib.Omega.{arith}
 use mathlib.Core.Path.{_≡_, sym, _∙_}
 use lib.ListN.{length, take}
-use lib.Seq.{length-take-le}
 use Rattle.lists.specs.Below.{countBelow}
 use Rattle.image.specs.Words.{valuesOf}
 use Rattle.image.specs.Layout.{covers, ownedOnce}
 use Rattle.image.specs.declared.rows.Kind.the-variants.{Value}
-use Rattle.image.proofs.RangeLaws.{held-values, own-none}
+use Rattle.image.proofs.RangeLaws.{held-values, own-none, marks-of}
 use Rattle.image.proofs.owners.values_owned.Statement.{statement}
 use Rattle.image.proofs.owners.values_owned.Tie as tie
 
 -- the marks of the rows
 size : (c : tie.Start) → length (take (c .args .s .values .count) (c .args .marks .now)) ≡ c .args .s .values .count
-size c = length-take-le (c .args .s .values .count) (c .args .marks .now) (omega (arith, c .pre .0 .few Value, c .pre .1))
+size c = marks-of (c .args .image .now) (c .args .s) (c .args .pool) (c .args .marks .now) (c .pre .0) (c .pre .1) Value
 
 owned-requires : tie.Need-owned-requires
 owned-requires c κs =
