@@ -3,3 +3,10 @@ pub mod OwnerLaws
 pub mod RangeLaws
 pub mod FewLaws
 pub mod TextLaws
+pub mod FieldLaws
+pub mod SearchLaws
+pub mod ValueLaws
+pub mod TestLaws
+pub mod MemberLaws
+pub mod LaidLaws
+pub mod VerdictLaws

@@ -89,16 +89,27 @@ module _ {marks after : List ℕ} {more : ℕ → ℕ} {done : Bool} (z : Free m
       ∙ allBelow-agree (length marks) (λ j. eqb (getD after j 0) 1) (λ j. eqb (more j) 1)
       (λ j l. let q : getD after j 0 ≡ more j = m .grown e j l ∙ rw (z .free j l) (zero-add (more j)) in ap (λ (x : ℕ). eqb x 1) q)
 
--- ---- all marks taken away, from the front
+-- ---- all marks taken away, from the front: the first n are 0
 
-pub record Clearing (marks : List ℕ) (n : ℕ) : Type 0 where
+pub record Clearing (before marks : List ℕ) (n : ℕ) : Type 0 where
+  pub most : n ≤ length marks
+  pub size : length marks ≡ length before
   pub each : (j : ℕ) → j < n → getD marks j 0 ≡ 0
 
-pub clearing-more : (marks : List ℕ) (n : ℕ) → n < length marks → Clearing marks n → Clearing (set marks n 0) (n + 1)
-clearing-more marks n h c =
-    record {
-      each = λ j l.
-          equal j n
-          (λ e. rw e (getD-set-same marks n 0 0 h))
-          (λ e. getD-set-other marks n j 0 0 e ∙ c .each j (omega arith));
-    }
+pub clearing-start : (marks : List ℕ) → Clearing marks marks 0
+clearing-start marks = record { most = omega arith; size = refl; each = λ j l. absurd (omega arith) }
+
+module _ {before marks : List ℕ} {n : ℕ} (c : Clearing before marks n) where
+  pub clearing-more : n < length marks → Clearing before (set marks n 0) (n + 1)
+  clearing-more h =
+      record {
+        most = rw (length-set marks n 0) (omega arith);
+        size = length-set marks n 0 ∙ c .size;
+        each = λ j l.
+            equal j n
+            (λ e. rw e (getD-set-same marks n 0 0 h))
+            (λ e. getD-set-other marks n j 0 0 e ∙ c .each j (omega arith));
+      }
+
+  pub clearing-end : length marks ≤ n → Free marks
+  clearing-end h = record { free = λ j l. c .each j (omega arith) }

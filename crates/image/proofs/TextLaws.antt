@@ -1,12 +1,14 @@
 -- Laws of the texts of an image. Assumes nothing.
 use Prim.Native.Nat.{ℕ, _+_, _-_, _≤_}
 use native.Mathlib.Omega.{arith}
-use mathlib.Core.Path.{_≡_, refl}
+use mathlib.Core.Path.{_≡_, refl, sym, _∙_}
 use mathlib.Core.List.{List, [], _∷_}
 use mathlib.Core.Bool.{true, false}
 use lib.ListN.{length, take, drop, length-drop, drop-of-length-le}
 use lib.Seq.{take-all, take-nil}
-use Rattle.lists.specs.Lists.{isEmpty}
+use Rattle.lists.specs.Lists.{isEmpty, same}
+use Rattle.lists.proofs.Cases.{by, clash}
+use Rattle.lists.proofs.ListLaws.{same-refl, same-is, same-differ}
 use Rattle.image.specs.Words.{wordAt}
 use Rattle.image.specs.Texts.{textOf}
 
@@ -36,3 +38,6 @@ pub empty-some : (l : List ℕ) → (length l ≡ 0 → ⊥) → isEmpty l ≡ f
 unfolding isEmpty
 empty-some [] h = absurd (h refl)
 empty-some (x ∷ l) h = refl
+
+pub same-comm : (s t : List ℕ) → same s t ≡ same t s
+same-comm s t = by (same s t) (λ e. rw (same-is s t e)) (λ e. e ∙ sym (same-differ t s (λ q. clash (same s t) (rw q (same-refl s)) e)))

@@ -7,6 +7,7 @@ use lib.Dec.{eqb, leb, ltb}
 use lib.ListN.{length}
 use Rattle.lists.specs.Below.{bit, allBelow, countBelow, allOf}
 use Rattle.lists.specs.Lists.{between, inRange}
+use Rattle.image.specs.Words.{publicAt, nestedAt, enumsAt, fieldsAt, extensionsAt, oneofsAt, mapEntryAt, valuesAt, labelAt, typeAt, typeNameAt, extendeeAt, jsonNameAt, givenAt, defaultAt, optionalAt, fileNameAt, packageAt, syntaxAt, poolLengthAt, ownStartAt}
 use Rattle.image.specs.Words.{wordAt, rangeAt, trailerWidth, trailerAt, topMessages, topEnums, sectionsOf, sectionOf, rowAt, sectionEnd, nestedMessages, enumsOf, fieldsOf, extensionsOf, oneofsOf, valuesOf, topLevel, fileExtensions}
 use Rattle.image.specs.declared.rows.Range.{Range}
 use Rattle.image.specs.declared.rows.Sections.{Sections}
@@ -37,11 +38,11 @@ rangeFits count g = leb (g .first + g .count) count && (not (eqb (g .count) 0) |
 abbrev pub trailerTests : List ℕ → ℕ → ℕ → List Bool
 trailerTests image pool k =
     eqb (wordAt image k) 1
-    ∷ between 2 3 (wordAt image (k + 5))
-    ∷ eqb (wordAt image (k + 22)) pool
-    ∷ eqb (wordAt image (k + 23)) k
-    ∷ textFits image pool (k + 1)
-    ∷ textFits image pool (k + 3)
+    ∷ between 2 3 (wordAt image (syntaxAt k))
+    ∷ eqb (wordAt image (poolLengthAt k)) pool
+    ∷ eqb (wordAt image (ownStartAt k)) k
+    ∷ textFits image pool (fileNameAt k)
+    ∷ textFits image pool (packageAt k)
     ∷ []
 
 unfoldable pub trailerFits : List ℕ → ℕ → ℕ → Bool
@@ -97,23 +98,23 @@ frameFits image pool s = allOf (frameTests image pool s)
 
 -- what a row that starts at word k must meet. An import: file name, public
 abbrev pub importTests : List ℕ → ℕ → ℕ → List Bool
-importTests image pool k = textFits image pool k ∷ isFlag (wordAt image (k + 2)) ∷ []
+importTests image pool k = textFits image pool k ∷ isFlag (wordAt image (publicAt k)) ∷ []
 
 -- a message: name; nested messages, enums, fields, extensions, oneofs; map-entry option
 abbrev pub messageTests : List ℕ → Sections → ℕ → ℕ → List Bool
 messageTests image s pool k =
     textFits image pool k
-    ∷ rangeFits (s .messages .count) (rangeAt image (k + 2))
-    ∷ rangeFits (s .enums .count) (rangeAt image (k + 4))
-    ∷ rangeFits (s .fields .count) (rangeAt image (k + 6))
-    ∷ rangeFits (s .fields .count) (rangeAt image (k + 8))
-    ∷ rangeFits (s .oneofs .count) (rangeAt image (k + 10))
-    ∷ isFlag (wordAt image (k + 13))
+    ∷ rangeFits (s .messages .count) (rangeAt image (nestedAt k))
+    ∷ rangeFits (s .enums .count) (rangeAt image (enumsAt k))
+    ∷ rangeFits (s .fields .count) (rangeAt image (fieldsAt k))
+    ∷ rangeFits (s .fields .count) (rangeAt image (extensionsAt k))
+    ∷ rangeFits (s .oneofs .count) (rangeAt image (oneofsAt k))
+    ∷ isFlag (wordAt image (mapEntryAt k))
     ∷ []
 
 -- an enum: name; values
 abbrev pub enumTests : List ℕ → Sections → ℕ → ℕ → List Bool
-enumTests image s pool k = textFits image pool k ∷ rangeFits (s .values .count) (rangeAt image (k + 2)) ∷ []
+enumTests image s pool k = textFits image pool k ∷ rangeFits (s .values .count) (rangeAt image (valuesAt k)) ∷ []
 
 -- a value or a oneof: name
 abbrev pub nameTests : List ℕ → ℕ → ℕ → List Bool
@@ -123,14 +124,14 @@ nameTests image pool k = textFits image pool k ∷ []
 abbrev pub fieldTests : List ℕ → ℕ → ℕ → List Bool
 fieldTests image pool k =
     textFits image pool k
-    ∷ between 1 3 (wordAt image (k + 3))
-    ∷ between 1 18 (wordAt image (k + 4))
-    ∷ textFits image pool (k + 5)
-    ∷ textFits image pool (k + 7)
-    ∷ textFits image pool (k + 9)
-    ∷ isFlag (wordAt image (k + 11))
-    ∷ textFits image pool (k + 12)
-    ∷ isFlag (wordAt image (k + 15))
+    ∷ between 1 3 (wordAt image (labelAt k))
+    ∷ between 1 18 (wordAt image (typeAt k))
+    ∷ textFits image pool (typeNameAt k)
+    ∷ textFits image pool (extendeeAt k)
+    ∷ textFits image pool (jsonNameAt k)
+    ∷ isFlag (wordAt image (givenAt k))
+    ∷ textFits image pool (defaultAt k)
+    ∷ isFlag (wordAt image (optionalAt k))
     ∷ []
 
 abbrev pub rowTests : List ℕ → Sections → ℕ → Kind → ℕ → List Bool

@@ -2,3 +2,16 @@ pub mod Words
 pub mod Layout
 pub mod Marks
 pub mod Texts
+pub mod Schema
+pub mod Flat
+pub mod Laid
+pub mod Members
+pub mod Counts
+pub mod Links
+pub mod FullName
+pub mod Limits
+pub mod Verdict
+pub mod MapEntry
+pub mod Clash
+pub mod Values
+pub mod Judge

@@ -7,7 +7,7 @@ use lib.Dec.{eqb}
 use Rattle.lists.specs.Below.{allBelow, allOf}
 use Rattle.lists.specs.Lists.{isEmpty, part}
 use Rattle.names.specs.Bytes.{isIdentifier, isPackage, isTypeName, isFileName, isPrintable}
-use Rattle.image.specs.Words.{wordAt, trailerAt, sectionsOf, sectionOf, rowAt}
+use Rattle.image.specs.Words.{wordAt, trailerAt, sectionsOf, sectionOf, rowAt, typeAt, typeNameAt, extendeeAt, jsonNameAt, givenAt, defaultAt, fileNameAt, packageAt}
 use Rattle.image.specs.declared.rows.Sections.{Sections}
 use Rattle.image.specs.declared.rows.Kind.{Kind}
 use Rattle.image.specs.declared.rows.Kind.the-variants.{Import, Message, Enum, Value, Oneof, Field}
@@ -23,21 +23,21 @@ abbrev pub needsTypeName : ℕ → Bool
 needsTypeName t = eqb t 10 || (eqb t 11 || eqb t 14)
 
 unfoldable pub typeNameRight : List ℕ → List ℕ → ℕ → Bool
-typeNameRight image pool k = cond (needsTypeName (wordAt image (k + 4))) (isTypeName (textOf image pool (k + 5))) true
+typeNameRight image pool k = cond (needsTypeName (wordAt image (typeAt k))) (isTypeName (textOf image pool (typeNameAt k))) true
 
 -- absent, or a type name
 unfoldable pub extendeeRight : List ℕ → List ℕ → ℕ → Bool
-extendeeRight image pool k = isEmpty (textOf image pool (k + 7)) || isTypeName (textOf image pool (k + 7))
+extendeeRight image pool k = isEmpty (textOf image pool (extendeeAt k)) || isTypeName (textOf image pool (extendeeAt k))
 
 unfoldable pub defaultRight : List ℕ → List ℕ → ℕ → Bool
-defaultRight image pool k = cond (eqb (wordAt image (k + 11)) 0) true (isPrintable (textOf image pool (k + 12)))
+defaultRight image pool k = cond (eqb (wordAt image (givenAt k)) 0) true (isPrintable (textOf image pool (defaultAt k)))
 
 abbrev pub fieldTexts : List ℕ → List ℕ → ℕ → List Bool
 fieldTexts image pool k =
     isIdentifier (textOf image pool k)
     ∷ typeNameRight image pool k
     ∷ extendeeRight image pool k
-    ∷ isPrintable (textOf image pool (k + 9))
+    ∷ isPrintable (textOf image pool (jsonNameAt k))
     ∷ defaultRight image pool k
     ∷ []
 
@@ -59,7 +59,7 @@ kindTextsRight image s pool kind = allBelow (sectionOf s kind .count) (λ r. row
 
 -- the file name and the package
 abbrev pub fileTextTests : List ℕ → List ℕ → List Bool
-fileTextTests image pool = isFileName (textOf image pool (trailerAt image + 1)) ∷ isPackage (textOf image pool (trailerAt image + 3)) ∷ []
+fileTextTests image pool = isFileName (textOf image pool (fileNameAt (trailerAt image))) ∷ isPackage (textOf image pool (packageAt (trailerAt image))) ∷ []
 
 abbrev pub rowsTextTests : List ℕ → Sections → List ℕ → List Bool
 rowsTextTests image s pool =

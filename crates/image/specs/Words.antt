@@ -83,25 +83,106 @@ unfoldable pub sectionEnd : Sections → Kind → ℕ
 unfolding rowAt
 sectionEnd s kind = rowAt s kind (sectionOf s kind .count)
 
+-- ---- the words of a row that starts at word k. A row with a name, or an import's file name, starts with it
+
+-- an import: whether it is public
+abbrev pub publicAt : ℕ → ℕ
+publicAt k = k + 2
+
+-- a message: its nested messages, enums, fields, extensions and oneofs; its number of extension ranges; its map-entry option
+abbrev pub nestedAt : ℕ → ℕ
+nestedAt k = k + 2
+
+abbrev pub enumsAt : ℕ → ℕ
+enumsAt k = k + 4
+
+abbrev pub fieldsAt : ℕ → ℕ
+fieldsAt k = k + 6
+
+abbrev pub extensionsAt : ℕ → ℕ
+extensionsAt k = k + 8
+
+abbrev pub oneofsAt : ℕ → ℕ
+oneofsAt k = k + 10
+
+abbrev pub extensionRangesAt : ℕ → ℕ
+extensionRangesAt k = k + 12
+
+abbrev pub mapEntryAt : ℕ → ℕ
+mapEntryAt k = k + 13
+
+-- an enum: its values
+abbrev pub valuesAt : ℕ → ℕ
+valuesAt k = k + 2
+
+-- a value, and a field: its number
+abbrev pub numberAt : ℕ → ℕ
+numberAt k = k + 2
+
+-- a field: its label, type, type name, extendee and JSON name; whether a default is given, and its text; its oneof index + 1 or 0;
+-- proto3_optional
+abbrev pub labelAt : ℕ → ℕ
+labelAt k = k + 3
+
+abbrev pub typeAt : ℕ → ℕ
+typeAt k = k + 4
+
+abbrev pub typeNameAt : ℕ → ℕ
+typeNameAt k = k + 5
+
+abbrev pub extendeeAt : ℕ → ℕ
+extendeeAt k = k + 7
+
+abbrev pub jsonNameAt : ℕ → ℕ
+jsonNameAt k = k + 9
+
+abbrev pub givenAt : ℕ → ℕ
+givenAt k = k + 11
+
+abbrev pub defaultAt : ℕ → ℕ
+defaultAt k = k + 12
+
+abbrev pub oneofAt : ℕ → ℕ
+oneofAt k = k + 14
+
+abbrev pub optionalAt : ℕ → ℕ
+optionalAt k = k + 15
+
+-- the trailer: file name, package, syntax, pool length, its own start
+abbrev pub fileNameAt : ℕ → ℕ
+fileNameAt k = k + 1
+
+abbrev pub packageAt : ℕ → ℕ
+packageAt k = k + 3
+
+abbrev pub syntaxAt : ℕ → ℕ
+syntaxAt k = k + 5
+
+abbrev pub poolLengthAt : ℕ → ℕ
+poolLengthAt k = k + 22
+
+abbrev pub ownStartAt : ℕ → ℕ
+ownStartAt k = k + 23
+
 -- ---- the ranges of rows that message row r, enum row r (its values) or the file owns
 
 abbrev pub nestedMessages : List ℕ → Sections → ℕ → Range
-nestedMessages image s r = rangeAt image (rowAt s Message r + 2)
+nestedMessages image s r = rangeAt image (nestedAt (rowAt s Message r))
 
 abbrev pub enumsOf : List ℕ → Sections → ℕ → Range
-enumsOf image s r = rangeAt image (rowAt s Message r + 4)
+enumsOf image s r = rangeAt image (enumsAt (rowAt s Message r))
 
 abbrev pub fieldsOf : List ℕ → Sections → ℕ → Range
-fieldsOf image s r = rangeAt image (rowAt s Message r + 6)
+fieldsOf image s r = rangeAt image (fieldsAt (rowAt s Message r))
 
 abbrev pub extensionsOf : List ℕ → Sections → ℕ → Range
-extensionsOf image s r = rangeAt image (rowAt s Message r + 8)
+extensionsOf image s r = rangeAt image (extensionsAt (rowAt s Message r))
 
 abbrev pub oneofsOf : List ℕ → Sections → ℕ → Range
-oneofsOf image s r = rangeAt image (rowAt s Message r + 10)
+oneofsOf image s r = rangeAt image (oneofsAt (rowAt s Message r))
 
 abbrev pub valuesOf : List ℕ → Sections → ℕ → Range
-valuesOf image s r = rangeAt image (rowAt s Enum r + 2)
+valuesOf image s r = rangeAt image (valuesAt (rowAt s Enum r))
 
 abbrev pub topLevel : ℕ → Range
 topLevel n = record { first = 0; count = n }

@@ -2,7 +2,15 @@
 //
 // Below stand the rules of texts, crate `names`; above stands the linker, which cites what is promised here. Every public function is
 // total: any words, any bytes, any lengths are answered.
+pub mod fields;
+pub mod flat;
+pub mod judge;
 pub mod layout;
+pub mod limits;
+pub mod map_entry;
+pub mod oneofs;
 mod owners;
 pub mod rows;
 pub mod texts;
+pub mod values;
+pub mod verdict;

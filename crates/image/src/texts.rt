@@ -27,7 +27,7 @@ pub fn text_of<'a>(image: &[u32], pool: &'a [u8], at: usize) -> &'a [u8]
 }
 
 // Whether a field of that type must have a type name.
-fn needs_type_name(t: u32) -> bool
+pub fn needs_type_name(t: u32) -> bool
     ensures { λ r. ⌜ r ≡ needsTypeName t ⌝ }
 {
     if t == 10 {

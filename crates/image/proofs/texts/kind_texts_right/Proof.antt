@@ -1,46 +1,29 @@
 -- `image::texts::kind_texts_right` meets its contract: the texts of all rows before the present one are right. Assumes nothing.
-use borrow.Author.Needs.{needs}
-use Prim.Native.Nat.{ℕ, _-_, _≤_, _<_}
+use Prim.Native.Nat.{_-_}
 use native.Mathlib.Omega.{arith}
-use mathlib.Core.Path.{_≡_, sym, ap, _∙_}
-use mathlib.Core.Bool.{true, false}
+use mathlib.Core.Path.{_≡_, sym, _∙_}
+use borrow.Author.Needs.{needs}
 use borrow.Author.Tests.{not-true, not-false}
 use Rattle.lists.specs.Below.{allBelow}
-use Rattle.lists.proofs.BelowLaws.{allBelow-start, allBelow-more, allBelow-fails}
-use Rattle.image.specs.Words.{sectionOf, rowAt}
-use Rattle.image.specs.Texts.{rowTextsRight, kindTextsRight}
+use Rattle.image.specs.Texts.{kindTextsRight, rowTextsRight}
+use Rattle.image.specs.Words.{rowAt}
+use Rattle.image.proofs.SearchLaws.{Passing, passing-end, passing-fails, passing-more, passing-start}
 use Rattle.image.proofs.texts.kind_texts_right.Statement.{statement}
 use Rattle.image.proofs.texts.kind_texts_right.Tie as tie
 
 abbrev Inv-loop : tie.InvT-loop
-Inv-loop image s pool kind n r₀ r = (r ≤ n) × (allBelow r (λ i. rowTextsRight image pool kind (rowAt s kind i)) ≡ true)
+Inv-loop image s pool kind n r₀ r = Passing n (λ i. rowTextsRight image pool kind (rowAt s kind i)) r
 
 abbrev μ-loop : tie.MeasureT-loop
 μ-loop image s pool kind n r₀ r = n - r
 
-returns : tie.Need-returns Inv-loop μ-loop
-unfolding kindTextsRight
-returns c =
-    let l = c .before .before .before .before in
-    let a = l .before .before .before .before .args in
-    let h : l .loop .r < sectionOf (a .s) (a .kind) .count = rw (← l .before .count-of .ensures) (c .before .before .before .loop-test .taken) in
-    let e : rowTextsRight (a .image .now) (a .pool .now) (a .kind) (rowAt (a .s) (a .kind) (l .loop .r)) ≡ false = rw (← c .before .before .row-at .ensures .0) (sym (c .before .row-texts-right .ensures) ∙ not-true (c .before .row-texts-right .result) (c .if1 .taken)) in
-    sym (allBelow-fails (sectionOf (a .s) (a .kind) .count) (λ i. rowTextsRight (a .image .now) (a .pool .now) (a .kind) (rowAt (a .s) (a .kind) i)) (l .loop .r) h e)
+tested : (c : tie.After-row-texts-right Inv-loop μ-loop) → c .row-texts-right .result ≡ rowTextsRight (c .before .before .before .before .before .before .before .args .image .now) (c .before .before .before .before .before .before .before .args .pool .now) (c .before .before .before .before .before .before .before .args .kind) (rowAt (c .before .before .before .before .before .before .before .args .s) (c .before .before .before .before .before .before .before .args .kind) (c .before .before .before .loop .r))
+tested c = rw (c .before .row-at .ensures .0) at (c .row-texts-right .ensures)
 
-loop-again : tie.Need-loop-again Inv-loop μ-loop
-loop-again c =
-    let l = c .before .before .before .before in
-    let a = l .before .before .before .before .args in
-    let e : rowTextsRight (a .image .now) (a .pool .now) (a .kind) (rowAt (a .s) (a .kind) (l .loop .r)) ≡ true = rw (← c .before .before .row-at .ensures .0) (sym (c .before .row-texts-right .ensures) ∙ not-false (c .before .row-texts-right .result) (c .if1 .left)) in
-    (omega arith, allBelow-more (l .loop .r) (λ i. rowTextsRight (a .image .now) (a .pool .now) (a .kind) (rowAt (a .s) (a .kind) i)) (l .loop .inv .1) e)
-
-returns-2 : tie.Need-returns-2 Inv-loop μ-loop
+-- the count that was read is that of the kind
+whole : (c : tie.After-count-of Inv-loop μ-loop) → kindTextsRight (c .before .before .before .args .image .now) (c .before .before .before .args .s) (c .before .before .before .args .pool .now) (c .before .before .before .args .kind) ≡ allBelow (c .count-of .result) (λ i. rowTextsRight (c .before .before .before .args .image .now) (c .before .before .before .args .pool .now) (c .before .before .before .args .kind) (rowAt (c .before .before .before .args .s) (c .before .before .before .args .kind) i))
 unfolding kindTextsRight
-returns-2 c =
-    let l = c .before in
-    let a = l .before .before .before .before .args in
-    let e : l .loop .r ≡ l .before .count-of .result = omega arith in
-    sym (ap (λ (n : ℕ). allBelow n (λ i. rowTextsRight (a .image .now) (a .pool .now) (a .kind) (rowAt (a .s) (a .kind) i))) (sym (e ∙ l .before .count-of .ensures)) ∙ l .loop .inv .1)
+whole c = rw (c .count-of .ensures)
 
 pub kind-texts-right-spec : {M : Type 1} → statement M
 kind-texts-right-spec =
@@ -49,11 +32,11 @@ kind-texts-right-spec =
     Inv-loop
     μ-loop
     (λ c κs. search needs)
-    (λ c. (omega arith, allBelow-start (λ i. rowTextsRight (c .before .before .before .args .image .now) (c .before .before .before .args .pool .now) (c .before .before .before .args .kind) (rowAt (c .before .before .before .args .s) (c .before .before .before .args .kind) i))))
+    (λ c. passing-start (c .count-of .result) (λ i. rowTextsRight (c .before .before .before .args .image .now) (c .before .before .before .args .pool .now) (c .before .before .before .args .kind) (rowAt (c .before .before .before .args .s) (c .before .before .before .args .kind) i)))
     (λ c κs. search needs)
     (λ c κs. omega (arith, c .row-at .ensures .1))
-    returns
+    (λ c. passing-fails (c .before .before .before .before .loop .inv) (c .before .before .before .loop-test .taken) (sym (tested (c .before)) ∙ not-true (c .before .row-texts-right .result) (c .if1 .taken)) ∙ sym (whole (c .before .before .before .before .before)))
     (λ c. omega arith)
     (λ c. omega arith)
-    loop-again
-    returns-2)
+    (λ c. passing-more (c .before .before .before .before .loop .inv) (c .before .before .before .loop-test .taken) (sym (tested (c .before)) ∙ not-false (c .before .row-texts-right .result) (c .if1 .left)))
+    (λ c. passing-end (c .before .loop .inv) (c .loop-test .left) ∙ sym (whole (c .before .before))))
