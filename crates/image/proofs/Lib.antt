@@ -10,3 +10,12 @@ pub mod TestLaws
 pub mod MemberLaws
 pub mod LaidLaws
 pub mod VerdictLaws
+pub mod PathTexts
+pub mod PathLaws
+pub mod DotLaws
+pub mod ItemLaws
+pub mod LookupLaws
+pub mod SiblingLaws
+pub mod NamedLaws
+pub mod ShortLaws
+pub mod WriteLaws

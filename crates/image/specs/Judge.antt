@@ -7,9 +7,8 @@ use Rattle.lists.specs.Splice.{fronted}
 use Rattle.image.specs.Layout.{laidOutWithinLimit}
 use Rattle.image.specs.Texts.{textsRight}
 use Rattle.image.specs.Limits.{withinLimits}
-use Rattle.image.specs.Schema.{Schema, schemaOf}
-use Rattle.image.specs.Flat.{rowOf}
-use Rattle.image.specs.Links.{linksOf}
+use Rattle.image.specs.Schema.{Schema}
+use Rattle.image.specs.Links.{linksOf, messageRow}
 use Rattle.image.specs.FullName.{sharesName}
 use Rattle.image.specs.MapEntry.{entryLines}
 use Rattle.image.specs.Verdict.{Line, line, first, inOrder, passes}
@@ -26,26 +25,24 @@ openingLines image pool full =
     ∷ line TextWrong (not (textsRight image pool)) 0
     ∷ []
 
--- 9 to 11, message by message in flat order
-unfoldable pub mapEntryLines : Schema → List Line
-mapEntryLines g = inOrder (g .messages) (λ m. entryLines g (rowOf g m) m)
+-- 9 to 11, message by message in flat order. `links` are the file's link rows
+unfoldable pub mapEntryLines : Schema → List ℕ → List Line
+mapEntryLines g links = inOrder (g .messages) (λ m. entryLines g (messageRow links m) m)
 
 -- 8, then 9 to 11
-unfoldable pub namingLines : Schema → List Line
+unfoldable pub namingLines : Schema → List ℕ → List Line
 unfolding mapEntryLines
-namingLines g = line NameShared (sharesName g (linksOf g)) 0 ∷ mapEntryLines g
+namingLines g links = line NameShared (sharesName g links) 0 ∷ mapEntryLines g links
 
-abbrev pub opening : List ℕ → List ℕ → Bool → Verdict
+-- the verdict of 3, 4 and 5
+unfoldable pub opening : List ℕ → List ℕ → Bool → Verdict
+unfolding openingLines first
 opening image pool full = first (openingLines image pool full)
 
--- both verdicts; nothing is said of 8 to 11 where 3, 4 or 5 is given
-abbrev pub judged : List ℕ → List ℕ → Bool → Judged
-judged image pool full =
-    record {
-      opening = opening image pool full;
-      naming = cond (passes (opening image pool full)) (first (namingLines (schemaOf image pool))) Passed;
-    }
+-- both verdicts, where that of 3, 4 and 5 is v; nothing is said of 8 to 11 where v is a refusal
+abbrev pub judgedBy : Verdict → Schema → Judged
+judgedBy v g = record { opening = v; naming = cond (passes v) (first (namingLines g (linksOf g))) Passed }
 
--- the link rows stand in front of `links`, if none of 3, 4 and 5 is given and there is room for them
-abbrev pub linksLeft : List ℕ → List ℕ → Bool → List ℕ → List ℕ
-linksLeft image pool full links = cond (passes (opening image pool full)) (fronted links (linksOf (schemaOf image pool))) links
+-- what stands in `links` afterwards: the link rows in front, if v is no refusal and there is room for them
+abbrev pub linksBy : Verdict → Schema → List ℕ → List ℕ
+linksBy v g links = cond (passes v) (fronted links (linksOf g)) links

@@ -9,6 +9,9 @@ pub mod Members
 pub mod Counts
 pub mod Links
 pub mod FullName
+pub mod Climb
+pub mod Lookup
+pub mod Chained
 pub mod Limits
 pub mod Verdict
 pub mod MapEntry

@@ -4,6 +4,7 @@
 // total: any words, any bytes, any lengths are answered.
 pub mod fields;
 pub mod flat;
+pub mod full_name;
 pub mod judge;
 pub mod layout;
 pub mod limits;
@@ -11,6 +12,7 @@ pub mod map_entry;
 pub mod oneofs;
 mod owners;
 pub mod rows;
+mod siblings;
 pub mod texts;
 pub mod values;
 pub mod verdict;

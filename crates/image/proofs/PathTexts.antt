@@ -1,0 +1,124 @@
+-- Laws of texts that are joined, and of texts that end in others. Assumes nothing.
+use mathlib.Core.Path.{_≡_, refl, sym, ap, _∙_}
+use mathlib.Core.Bool.{Bool, true, false, _&&_}
+use mathlib.Core.List.{List, [], _∷_, _++_, append-assoc}
+use Prim.Native.Nat.{ℕ, suc, _+_, _-_, _≤_, _<_}
+use native.Mathlib.Omega.{arith}
+use lib.Dec.{leb, eqb}
+use lib.ListN.{length, getD, take, drop, length-append, take-append-drop}
+use lib.Seq.{drop-at, drop-cons}
+use borrow.Author.Tests.{ne-eqb, le-leb, lt-leb, leb-true}
+use Rattle.lists.specs.Lists.{same, isEmpty}
+use Rattle.lists.proofs.Cases.{clash, left, right, and-true}
+use Rattle.lists.proofs.ListLaws.{same-refl, same-is, same-differ, same-append}
+use Rattle.names.specs.Package.{concatPaths}
+use Rattle.image.specs.Climb.{joinedLength, lead}
+use Rattle.image.specs.MapEntry.{endsWith}
+use Rattle.image.proofs.TextLaws.{empty-some}
+
+-- ---- joined texts
+
+pub concat-none : (t : List ℕ) → concatPaths [] t ≡ t
+unfolding concatPaths
+concat-none t = refl
+
+pub concat-nil : (s t : List ℕ) → length t ≡ 0 → concatPaths s t ≡ []
+unfolding concatPaths
+concat-nil [] [] h = refl
+concat-nil (a ∷ s) [] h = refl
+concat-nil s (b ∷ t) h = absurd (omega arith)
+
+pub concat-both : (s t : List ℕ) → 0 < length s → 0 < length t → concatPaths s t ≡ s ++ 46 ∷ t
+unfolding concatPaths
+concat-both [] t n m = absurd (omega arith)
+concat-both (a ∷ s) [] n m = absurd (omega arith)
+concat-both (a ∷ s) (b ∷ t) n m = refl
+
+pub concat-some : (s t : List ℕ) → 0 < length t → 0 < length (concatPaths s t)
+unfolding concatPaths
+concat-some [] t h = h
+concat-some (a ∷ s) [] h = absurd (omega arith)
+concat-some (a ∷ s) (b ∷ t) h = omega arith
+
+pub concat-length : (s t : List ℕ) → length (concatPaths s t) ≡ joinedLength (length s) (length t)
+unfolding concatPaths
+concat-length [] [] = refl
+concat-length [] (b ∷ t) = rw (ne-eqb (suc (length t)) 0 (λ e. omega arith))
+concat-length (a ∷ s) [] = refl
+concat-length (a ∷ s) (b ∷ t) =
+    rw (ne-eqb (suc (length t)) 0 (λ e. omega arith), ne-eqb (suc (length s)) 0 (λ e. omega arith)) (omega (arith, length-append s (46 ∷ b ∷ t)))
+
+pub joined-le : (s t : List ℕ) → length (concatPaths s t) ≤ length s + 1 + length t
+unfolding concatPaths
+joined-le [] t = omega arith
+joined-le (a ∷ s) [] = omega arith
+joined-le (a ∷ s) (b ∷ t) = omega (arith, length-append s (46 ∷ b ∷ t))
+
+pub empty-is : (l : List ℕ) → isEmpty l ≡ true → l ≡ []
+unfolding isEmpty
+empty-is [] h = refl
+empty-is (x ∷ l) h = clash false h refl
+
+-- ---- the package in front, and what it leads to
+
+pub lead-none : (k x : List ℕ) → x ≡ [] → lead k x ≡ k
+unfolding lead
+lead-none k x e = rw e
+
+-- the package before a joined name is the lead joined with the name
+pub concat-lead : (k x t : List ℕ) → 0 < length t → concatPaths k (concatPaths x t) ≡ concatPaths (lead k x) t
+unfolding concatPaths lead
+concat-lead k [] t h = refl
+concat-lead k (a ∷ x) [] h = absurd (omega arith)
+concat-lead [] (a ∷ x) (b ∷ t) h = refl
+concat-lead (d ∷ k) (a ∷ x) (b ∷ t) h = rw (append-assoc (d ∷ k) (46 ∷ a ∷ x) (46 ∷ b ∷ t))
+
+-- where something leads, a level more of it
+pub lead-some : (k x y t : List ℕ) → 0 < length t → x ≡ concatPaths y t → lead k x ≡ concatPaths (lead k y) t
+unfolding lead
+lead-some k x y t h e =
+    let n : length x ≡ 0 → ⊥ = λ z. omega (arith, rw e at z, concat-some y t h) in
+    rw (empty-some x n, e) (concat-lead k y t h)
+
+-- ---- a text against another that it is to be
+
+pub same-nil : (w : List ℕ) → same w [] ≡ eqb (length w) 0
+unfolding same
+same-nil [] = refl
+same-nil (b ∷ w) = sym (ne-eqb (suc (length w)) 0 (λ e. omega arith))
+
+-- where both end in t, what is in front of it decides
+pub ends-same : (w s t : List ℕ) → endsWith w t ≡ true → same w (s ++ t) ≡ same (take (length w - length t) w) s
+ends-same w s t e =
+    let u = take (length w - length t) w in
+    let split : w ≡ u ++ t = sym (take-append-drop (length w - length t) w)
+    ∙ ap (λ (l : List ℕ). u ++ l) (same-is (drop (length w - length t) w) t (right (leb (length t) (length w)) (same (drop (length w - length t) w) t) e)) in
+    ap (λ (l : List ℕ). same l (s ++ t)) split
+    ∙ same-append u s t t refl
+    ∙ ap (λ (q : Bool). same u s && q) (same-refl t)
+    ∙ and-true (same u s)
+
+ends-append : (s t : List ℕ) → endsWith (s ++ t) t ≡ true
+ends-append s t =
+    let n : length (s ++ t) - length t ≡ length s = omega (arith, length-append s t) in
+    rw (le-leb (length t) (length (s ++ t)) (omega (arith, length-append s t)), n, drop-at s t (length s) refl) (same-refl t)
+
+pub ends-not : (w s t : List ℕ) → endsWith w t ≡ false → same w (s ++ t) ≡ false
+ends-not w s t e = same-differ w (s ++ t) (λ q. clash (endsWith w t) (rw q (ends-append s t)) e)
+
+pub ends-length : (w t : List ℕ) → endsWith w t ≡ true → length t ≤ length w
+ends-length w t e = leb-true (length t) (length w) (left (leb (length t) (length w)) (same (drop (length w - length t) w) t) e)
+
+-- a text that ends in a dot and then a name, test by test
+module _ (w t : List ℕ) where
+  pub ends-short : length w ≤ length t → endsWith w (46 ∷ t) ≡ false
+  ends-short h = rw (lt-leb (suc (length t)) (length w) (omega arith))
+
+  ends-at : (k : ℕ) → length w - suc (length t) ≡ k → length w - length t ≡ suc k → length t < length w
+      → endsWith w (46 ∷ t) ≡ eqb (getD w k 0) 46 && same (drop (length w - length t) w) t
+  unfolding same
+  ends-at k n m h = rw (le-leb (suc (length t)) (length w) (omega arith), n, m, drop-cons w k 0 (omega arith))
+
+  pub ends-dot : length t < length w
+      → endsWith w (46 ∷ t) ≡ eqb (getD w (length w - length t - 1) 0) 46 && same (drop (length w - length t) w) t
+  ends-dot h = ends-at (length w - length t - 1) (omega arith) (omega arith) h

@@ -1,0 +1,65 @@
+// Rule 8: whether two messages or enums share a full name. Names have no dots, and enclosing words lead up to the top level, so two that
+// share a full name have a pair above them, or are one themselves, that stands in the same place with the same own name: it is enough
+// to compare siblings.
+use crate::full_name;
+use crate::rows::Sections;
+use names::bytes;
+ghost use mathlib.Core.Path.{_≡_};
+ghost use mathlib.Core.Bool.{_&&_};
+ghost use lib.Dec.{eqb};
+ghost use Rattle.lists.specs.Below.{anyBelow};
+ghost use Rattle.lists.specs.Lists.{same};
+ghost use Rattle.image.specs.Schema.{schemaIn};
+ghost use Rattle.image.specs.FullName.{itemName, itemUp, sharesName};
+ghost use Rattle.image.specs.Chained.{Chained, Named, siblings};
+
+// Whether item j stands where the enclosing word `up` says and is called `name`. Most items stand elsewhere, so that is looked at first.
+fn is_sibling(
+    image: &[u32],
+    s: Sections,
+    pool: &[u8],
+    links: &[u32],
+    up: u32,
+    name: &[u8],
+    j: u32,
+) -> bool
+    ensures { λ r. ⌜ r ≡ eqb up (itemUp (schemaIn (now (image .entry)) s (now (pool .entry))) (now (links .entry)) j) && same (now (name .entry)) (itemName (schemaIn (now (image .entry)) s (now (pool .entry))) (now (links .entry)) j) ⌝ }
+{
+    if up != full_name::item_up(image, s, pool, links, j) {
+        return false;
+    }
+    bytes::same_bytes(name, full_name::item_name(image, s, pool, links, j))
+}
+
+// Whether an item before item i is a sibling of it with the same own name.
+fn has_twin(image: &[u32], s: Sections, pool: &[u8], links: &[u32], i: u32) -> bool
+    ensures { λ r. ⌜ r ≡ anyBelow i (siblings (schemaIn (now (image .entry)) s (now (pool .entry))) (now (links .entry)) i) ⌝ }
+{
+    let up = full_name::item_up(image, s, pool, links, i);
+    let name = full_name::item_name(image, s, pool, links, i);
+    let mut j: u32 = 0;
+    while j < i {
+        if is_sibling(image, s, pool, links, up, name, j) {
+            return true;
+        }
+        j += 1;
+    }
+    false
+}
+
+// Rule 8: whether some item has the full name of an earlier one.
+pub fn shares_name(image: &[u32], s: Sections, pool: &[u8], links: &[u32]) -> bool
+    requires { ⌜ Chained (schemaIn (now image) s (now pool)) (now links) ⌝ }
+    requires { ⌜ Named (schemaIn (now image) s (now pool)) (now links) ⌝ }
+    ensures { λ r. ⌜ r ≡ sharesName (schemaIn (now (image .entry)) s (now (pool .entry))) (now (links .entry)) ⌝ }
+{
+    let n = s.messages.count + s.enums.count;
+    let mut i: u32 = 0;
+    while i < n {
+        if has_twin(image, s, pool, links, i) {
+            return true;
+        }
+        i += 1;
+    }
+    false
+}
