@@ -19,3 +19,13 @@ pub mod SiblingLaws
 pub mod NamedLaws
 pub mod ShortLaws
 pub mod WriteLaws
+pub mod SchemaLaws
+pub mod Once
+pub mod Numbers
+pub mod Levels
+pub mod Owned
+pub mod DepthLaws
+pub mod LinkLaws
+pub mod IndexLaws
+pub mod WalkLaws
+pub mod OneofLaws

@@ -4,10 +4,13 @@ pub mod Marks
 pub mod Texts
 pub mod Schema
 pub mod Flat
+pub mod Level
 pub mod Laid
+pub mod OneToOne
 pub mod Members
 pub mod Counts
 pub mod Links
+pub mod Walk
 pub mod FullName
 pub mod Climb
 pub mod Lookup

@@ -1,5 +1,6 @@
 // Full names: the names up the enclosing chain, behind the package. Messages and enums are given by their flat numbers, and `links` are
 // the words of the file's link rows. A name is compared up the chain, its last segment first, and is built only to be written.
+use crate::links;
 use crate::rows;
 use crate::rows::Flat;
 use crate::rows::Kind;
@@ -22,7 +23,7 @@ ghost use Rattle.names.specs.Answers.{frontAnswer};
 ghost use Rattle.names.specs.Bytes.{dot};
 ghost use Rattle.names.specs.Package.{concatPaths};
 ghost use Rattle.image.specs.Schema.{schemaIn};
-ghost use Rattle.image.specs.Links.{messageRow, messageUp, enumRow, enumUp};
+ghost use Rattle.image.specs.Links.{messageUp, enumRow};
 ghost use Rattle.image.specs.FullName.{messagePath, enumPath, pathBeneath, itemName, itemUp, fullName, fullNamesShort, fullNameLimit};
 ghost use Rattle.image.specs.Climb.{nameOf, messageAbove, namedUp, joinedLength, lead, writtenLength};
 ghost use Rattle.image.specs.Lookup.{messageByPath, enumByPath};
@@ -32,36 +33,6 @@ ghost use Rattle.image.specs.MapEntry.{endsWith};
 pub enum FlatFound {
     At(Flat),
     Nothing,
-}
-
-// The image row of a message.
-pub fn message_row(links: &[u32], m: Flat) -> Row
-    ensures { λ r. ⌜ r .0 ≡ messageRow (now (links .entry)) (m .0) ⌝ }
-{
-    Row(rows::word_at(links, m.0 as usize * 10))
-}
-
-// The enclosing word of a message.
-pub fn message_up(links: &[u32], m: Flat) -> u32
-    ensures { λ r. ⌜ r ≡ messageUp (now (links .entry)) (m .0) ⌝ }
-{
-    rows::word_at(links, m.0 as usize * 10 + 1)
-}
-
-// The image row of an enum.
-pub fn enum_row(image: &[u32], s: Sections, pool: &[u8], links: &[u32], e: Flat) -> Row
-    ensures { λ r. ⌜ r .0 ≡ enumRow (schemaIn (now (image .entry)) s (now (pool .entry))) (now (links .entry)) (e .0) ⌝ }
-{
-    let first = s.messages.count as usize * 10;
-    Row(rows::word_at(links, first + e.0 as usize * 2))
-}
-
-// The enclosing word of an enum.
-pub fn enum_up(image: &[u32], s: Sections, pool: &[u8], links: &[u32], e: Flat) -> u32
-    ensures { λ r. ⌜ r ≡ enumUp (schemaIn (now (image .entry)) s (now (pool .entry))) (now (links .entry)) (e .0) ⌝ }
-{
-    let first = s.messages.count as usize * 10;
-    rows::word_at(links, first + e.0 as usize * 2 + 1)
 }
 
 // The name of a message, as a part of the pool.
@@ -74,7 +45,7 @@ pub fn message_name<'a>(
 ) -> &'a [u8]
     ensures { λ r. ⌜ now r ≡ nameOf (schemaIn (now (image .entry)) s (now (pool .entry))) (now (links .entry)) (m .0) ⌝ }
 {
-    let row = message_row(links, m);
+    let row = links::message_row(links, m);
     texts::text_of(image, pool, rows::row_at(s, Kind::Message, row))
 }
 
@@ -82,7 +53,7 @@ pub fn message_name<'a>(
 pub fn enum_name<'a>(image: &[u32], s: Sections, pool: &'a [u8], links: &[u32], e: Flat) -> &'a [u8]
     ensures { λ r. ⌜ now r ≡ schemaIn (now (image .entry)) s (now (pool .entry)) .enumName (enumRow (schemaIn (now (image .entry)) s (now (pool .entry))) (now (links .entry)) (e .0)) ⌝ }
 {
-    let row = enum_row(image, s, pool, links, e);
+    let row = links::enum_row(image, s, pool, links, e);
     texts::text_of(image, pool, rows::row_at(s, Kind::Enum, row))
 }
 
@@ -103,9 +74,9 @@ pub fn item_up(image: &[u32], s: Sections, pool: &[u8], links: &[u32], i: u32) -
 {
     let n = s.messages.count;
     if i < n {
-        return message_up(links, Flat(i));
+        return links::message_up(links, Flat(i));
     }
-    enum_up(image, s, pool, links, Flat(i - n))
+    links::enum_up(image, s, pool, links, Flat(i - n))
 }
 
 // An enclosing word, or 0 where nothing stands in front of a name: no more levels are looked at, or the name stands at top level, or the
@@ -167,7 +138,7 @@ fn is_path_beneath(
     let front = wanted.len() - name.len() - 1;
     let m = Flat(above - 1);
     let outer = message_name(image, s, pool, links, m);
-    let over = message_up(links, m);
+    let over = links::message_up(links, m);
     is_path_beneath(
         image,
         s,
@@ -193,7 +164,7 @@ pub fn is_message_path(
     ensures { λ r. ⌜ r ≡ same (now (wanted .entry)) (messagePath (schemaIn (now (image .entry)) s (now (pool .entry))) (now (links .entry)) depth (m .0)) ⌝ }
 {
     let name = message_name(image, s, pool, links, m);
-    let up = message_up(links, m);
+    let up = links::message_up(links, m);
     is_path_beneath(image, s, pool, links, wanted, up, name, depth)
 }
 
@@ -209,7 +180,7 @@ pub fn is_enum_path(
     ensures { λ r. ⌜ r ≡ same (now (wanted .entry)) (enumPath (schemaIn (now (image .entry)) s (now (pool .entry))) (now (links .entry)) (e .0)) ⌝ }
 {
     let name = enum_name(image, s, pool, links, e);
-    let up = enum_up(image, s, pool, links, e);
+    let up = links::enum_up(image, s, pool, links, e);
     is_path_beneath(image, s, pool, links, wanted, up, name, 16)
 }
 
@@ -288,7 +259,7 @@ fn length_above(
     }
     let m = Flat(above - 1);
     let name = message_name(image, s, pool, links, m);
-    let over = message_up(links, m);
+    let over = links::message_up(links, m);
     let outer = length_above(image, s, pool, links, over, levels - 1);
     joined_length(outer, name.len())
 }
@@ -319,7 +290,7 @@ fn messages_short(image: &[u32], s: Sections, pool: &[u8], links: &[u32]) -> boo
     let mut m: u32 = 0;
     while m < n {
         let name = message_name(image, s, pool, links, Flat(m));
-        let up = message_up(links, Flat(m));
+        let up = links::message_up(links, Flat(m));
         if 512 < full_length(image, s, pool, links, up, name) {
             return false;
         }
@@ -336,7 +307,7 @@ fn enums_short(image: &[u32], s: Sections, pool: &[u8], links: &[u32]) -> bool
     let mut e: u32 = 0;
     while e < n {
         let name = enum_name(image, s, pool, links, Flat(e));
-        let up = enum_up(image, s, pool, links, Flat(e));
+        let up = links::enum_up(image, s, pool, links, Flat(e));
         if 512 < full_length(image, s, pool, links, up, name) {
             return false;
         }
@@ -385,7 +356,7 @@ fn write_lead(
         return put_front(out, package);
     }
     let m = Flat(above - 1);
-    let over = message_up(links, m);
+    let over = links::message_up(links, m);
     let n = written(write_lead(image, s, pool, links, over, levels - 1, out));
     let name = message_name(image, s, pool, links, m);
     concat_paths(out, n, name)

@@ -8,6 +8,7 @@ pub mod full_name;
 pub mod judge;
 pub mod layout;
 pub mod limits;
+pub mod links;
 pub mod map_entry;
 pub mod oneofs;
 mod owners;

@@ -6,6 +6,7 @@ ghost use mathlib.Core.Path.{_≡_};
 ghost use mathlib.Core.Bool.{cond, _&&_};
 ghost use lib.Dec.{eqb};
 ghost use lib.ListN.{length};
+ghost use Rattle.lists.specs.Below.{bit};
 ghost use Rattle.lists.specs.Lists.{table};
 ghost use Rattle.image.specs.Words.{wordAt};
 ghost use Rattle.image.specs.Schema.{schemaIn};
@@ -67,9 +68,15 @@ pub fn count_members(image: &[u32], s: Sections, pool: &[u8], row: Row, members:
     }
 }
 
-// Whether a oneof with so many members, of which so many are proto3_optional, is synthetic.
-pub fn is_synthetic(members: u32, optionals: u32) -> bool
-    ensures { λ r. ⌜ r ≡ eqb members 1 && eqb optionals 1 ⌝ }
+// The synthetic mark of a oneof with so many members, of which so many are proto3_optional.
+pub fn synthetic_mark(members: u32, optionals: u32) -> u32
+    ensures { λ r. ⌜ r ≡ bit (eqb members 1 && eqb optionals 1) ⌝ }
 {
-    members == 1 && optionals == 1
+    if members != 1 {
+        return 0;
+    }
+    if optionals != 1 {
+        return 0;
+    }
+    1
 }

@@ -18,7 +18,7 @@ use Rattle.image.proofs.full_name.is_path_beneath.Kinds as is-path-bene
 use Rattle.image.proofs.full_name.+is_path_beneath.Lts-is_path_beneath as is-path-beneath-lts
 use Rattle.image.proofs.full_name.ends_in.Reads as ends-in-reads
 use Rattle.image.proofs.full_name.message_name.Reads as message-name-reads
-use Rattle.image.proofs.full_name.message_up.Reads as message-up-reads
+use Rattle.image.proofs.links.message_up.Reads as message-up-reads
 use Rattle.image.proofs.full_name.named_up.Reads as named-up-reads
 use Rattle.names.proofs.bytes.same_bytes.Reads as same-bytes-reads
 use Rattle.image.proofs.full_name.+is_path_beneath.{statement}

@@ -16,7 +16,7 @@ use Rattle.image.proofs.full_name.length_above.Kinds as length-above-ki
 use Rattle.image.proofs.full_name.+length_above.Lts-length_above as length-above-lts
 use Rattle.image.proofs.full_name.joined_length.Reads as joined-length-reads
 use Rattle.image.proofs.full_name.message_name.Reads as message-name-reads
-use Rattle.image.proofs.full_name.message_up.Reads as message-up-reads
+use Rattle.image.proofs.links.message_up.Reads as message-up-reads
 use Rattle.image.proofs.full_name.named_up.Reads as named-up-reads
 use Rattle.image.proofs.full_name.+length_above.{statement}
 use Rattle.image.proofs.full_name.+length_above.Tie.{close}

@@ -16,7 +16,7 @@ use Rattle.image.proofs.full_name.write_lead.Reads as write-lead
 use Rattle.image.proofs.full_name.write_lead.Kinds as write-lead-kinds
 use Rattle.image.proofs.full_name.+write_lead.Lts-write_lead as write-lead-lts
 use Rattle.image.proofs.full_name.message_name.Reads as message-name-reads
-use Rattle.image.proofs.full_name.message_up.Reads as message-up-reads
+use Rattle.image.proofs.links.message_up.Reads as message-up-reads
 use Rattle.image.proofs.full_name.named_up.Reads as named-up-reads
 use Rattle.image.proofs.full_name.package_name.Reads as package-name-reads
 use Rattle.image.proofs.full_name.written.Reads as written-reads

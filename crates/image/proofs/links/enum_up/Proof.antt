@@ -1,17 +1,18 @@
--- `image::full_name::enum_row` meets its contract. Assumes nothing.
+-- `image::links::enum_up` meets its contract. Assumes nothing.
 use borrow.Author.Needs.{needs}
 use Rattle.image.specs.Schema.{schemaIn}
-use Rattle.image.proofs.full_name.enum_row.Statement.{statement}
-use Rattle.image.proofs.full_name.enum_row.Tie as tie
+use Rattle.image.proofs.links.enum_up.Statement.{statement}
+use Rattle.image.proofs.links.enum_up.Tie as tie
 
 returns : tie.Need-returns
 unfolding schemaIn
 returns c = c .word-at .ensures
 
-pub enum-row-spec : {M : Type 1} → statement M
-enum-row-spec =
+pub enum-up-spec : {M : Type 1} → statement M
+enum-up-spec =
     tie.close
     (tie.spec
+    (λ c. search needs)
     (λ c. search needs)
     (λ c. search needs)
     (λ c. search needs)
