@@ -29,3 +29,5 @@ pub mod LinkLaws
 pub mod IndexLaws
 pub mod WalkLaws
 pub mod OneofLaws
+pub mod ChainLaws
+pub mod JudgeLaws

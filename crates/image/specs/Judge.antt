@@ -6,18 +6,20 @@ use lib.ListN.{length}
 use Rattle.lists.specs.Splice.{fronted}
 use Rattle.image.specs.Layout.{laidOutWithinLimit}
 use Rattle.image.specs.Texts.{textsRight}
-use Rattle.image.specs.Limits.{withinLimits}
-use Rattle.image.specs.Schema.{Schema}
+use Rattle.image.specs.Limits.{textsShort, withinLimits}
+use Rattle.image.specs.Schema.{Schema, schemaIn}
 use Rattle.image.specs.Links.{linksOf, messageRow}
-use Rattle.image.specs.FullName.{sharesName}
+use Rattle.image.specs.FullName.{fullNamesShort, sharesName}
 use Rattle.image.specs.MapEntry.{entryLines}
 use Rattle.image.specs.Verdict.{Line, line, first, inOrder, passes}
 use Rattle.image.specs.declared.verdict.Refusal.the-variants.{LayoutBroken, LimitPassed, TextWrong, NameShared}
 use Rattle.image.specs.declared.verdict.Verdict.{Verdict}
 use Rattle.image.specs.declared.verdict.Verdict.the-variants.{Passed}
+use Rattle.image.specs.declared.rows.Sections.{Sections}
 use Rattle.image.specs.declared.judge.Judged.{Judged}
 
--- 3, 4 and 5. `full` says that 32 files are shelved, which draws 4 whatever the image
+-- 3, 4 and 5. The line of 3 answers also for an image longer than 65,536 words, which 1 has refused before. `full` says that 32 files
+-- are shelved, which draws 4 whatever else an image says that obeys 3
 unfoldable pub openingLines : List ℕ → List ℕ → Bool → List Line
 openingLines image pool full =
     line LayoutBroken (not (laidOutWithinLimit image (length pool))) 0
@@ -46,3 +48,13 @@ judgedBy v g = record { opening = v; naming = cond (passes v) (first (namingLine
 -- what stands in `links` afterwards: the link rows in front, if v is no refusal and there is room for them
 abbrev pub linksBy : Verdict → Schema → List ℕ → List ℕ
 linksBy v g links = cond (passes v) (fronted links (linksOf g)) links
+
+-- what is left of 4 and 5 for an image that is laid out, with counts and nesting within their limits
+unfoldable pub numberedVerdict : List ℕ → Sections → List ℕ → Verdict
+unfolding first
+numberedVerdict image s pool =
+    first
+    (line LimitPassed (not (textsShort image s pool)) 0
+    ∷ line LimitPassed (not (fullNamesShort (schemaIn image s pool) (linksOf (schemaIn image s pool)))) 0
+    ∷ line TextWrong (not (textsRight image pool)) 0
+    ∷ [])

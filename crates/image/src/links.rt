@@ -10,7 +10,7 @@ ghost use mathlib.Core.Path.{_≡_};
 ghost use Prim.Native.Nat.{_+_, _*_, _≤_, _<_, _^_};
 ghost use lib.ListN.{length};
 ghost use Rattle.lists.specs.Lists.{span, concatMap};
-ghost use Rattle.lists.specs.Splice.{splice};
+ghost use Rattle.lists.specs.Splice.{splice, fronted};
 ghost use Rattle.image.specs.Schema.{schemaIn};
 ghost use Rattle.image.specs.Flat.{rowsOf};
 ghost use Rattle.image.specs.Links.{enumLinkWidth, oneofLinkWidth, enumLink, messageRow, messageUp, enumRow, enumUp};
@@ -26,6 +26,16 @@ pub(crate) fn put_words(words: &mut [u32], at: usize, src: &[u32])
         words[at + j] = src[j];
         j += 1;
     }
+}
+
+// Writes all of `src` into the front of `words`, or nothing where there is no room.
+pub(crate) fn put_front(words: &mut [u32], src: &[u32])
+    ensures { λ _. ⌜ now (words .exit) ≡ fronted (now (words .entry)) (now (src .entry)) ⌝ }
+{
+    if words.len() < src.len() {
+        return;
+    }
+    put_words(words, 0, src);
 }
 
 // The link row of a message that stands at the tally `t`, without its mark. `outside` is its enclosing word.
