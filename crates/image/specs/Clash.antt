@@ -1,5 +1,6 @@
--- Rule 17, of one message row, and the lookups of regular fields: by number, by own name, by own or JSON name. Rows owned as
--- extensions take no part. Assumes nothing.
+-- Rule 17, of one message row, and the lookups of regular fields: by number, by own name, by own or JSON name. What they answer is the
+-- field's place in its message; its flat number is that behind the message's first field. Rows owned as extensions take no part.
+-- Assumes nothing.
 use mathlib.Core.List.{List}
 use mathlib.Core.Bool.{Bool, cond, _||_}
 use mathlib.Core.Option.{Option, none, some}

@@ -30,7 +30,7 @@ nestedRows g r = rowsOf (g .nested r)
 abbrev pub maxDepth : ℕ
 maxDepth = 16
 
--- row r, then what is nested in it, at most d levels of it
+-- row r, then what is nested in it: at most d levels, row r itself being one
 unfoldable pub preorder : ℕ → Schema → ℕ → List ℕ
 preorder zero g r = []
 preorder (suc d) g r = r ∷ concatMap (preorder d g) (nestedRows g r)

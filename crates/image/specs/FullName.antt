@@ -1,5 +1,6 @@
--- Full names: the name up the enclosing chain behind the package. Messages and enums are given by their flat numbers, and `links` are
--- the words of the file's link rows. Assumes nothing.
+-- Full names: the name up the enclosing chain behind the package. `links` are the words of the file's link rows, and messages and enums
+-- are given by their flat numbers; as items, an enum's number is that behind the last message. Names are joined from the outermost
+-- message inward, and the package is put in front last. Assumes nothing.
 use mathlib.Core.List.{List, []}
 use mathlib.Core.Bool.{Bool, cond}
 use Prim.Native.Nat.{ℕ, zero, suc, _+_, _-_}
@@ -51,7 +52,7 @@ unfoldable pub fullName : Schema → List ℕ → ℕ → List ℕ
 unfolding itemUp itemName
 fullName g links i = concatPaths (g .«package») (itemPath g links i)
 
--- ---- the rules of full names, of the link rows that the image gives
+-- ---- the rules of full names
 
 abbrev pub fullNameLimit : ℕ
 fullNameLimit = 512

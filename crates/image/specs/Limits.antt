@@ -1,5 +1,6 @@
 -- Rule 4, of one image: its counts, the lengths of its texts, the nesting of its messages, and the lengths of full names. A type name
--- that is not needed and a default that is not given are looked at by rule 3 alone. Assumes nothing.
+-- that is not needed and a default that is not given are looked at by rule 3 alone. The depth of 16 stands in Flat (`maxDepth`), the limit
+-- of full names in FullName (`fullNameLimit`). Assumes nothing.
 use mathlib.Core.List.{List, [], _∷_}
 use mathlib.Core.Bool.{Bool, true, cond}
 use Prim.Native.Nat.{ℕ, _+_}

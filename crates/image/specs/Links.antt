@@ -60,7 +60,7 @@ oneofLinks g n = concatMap (λ m. concatMap (oneofLink g m) (span 0 (g .oneofsIn
 unfoldable pub linksOf : Schema → List ℕ
 linksOf g = messageLinks g 0 (g .messages) ++ (enumLinks g (g .messages) ++ oneofLinks g (g .messages))
 
--- how many words these are
+-- how many words these are, in an image that obeys rule 3 and whose nesting is within its limit
 abbrev pub linkWords : Schema → ℕ
 linkWords g = g .messages * messageLinkWidth + (g .enums * enumLinkWidth + g .oneofs * oneofLinkWidth)
 

@@ -6,11 +6,12 @@ use lib.Dec.{eqb}
 use Rattle.lists.specs.Below.{bit, countBelow}
 use Rattle.image.specs.Schema.{Schema, FieldSays}
 
--- regular field number j of message row r
+-- the regular field at place j of message row r
 abbrev pub regular : Schema → ℕ → ℕ → FieldSays
 regular g r j = g .field (g .fieldsIn r .first + j)
 
--- it is a member of the oneof at place k, which is below the message's number of oneofs
+-- it is a member of the oneof at place k. That k is below the message's number of oneofs is for the caller to say: `oneofLinks` asks
+-- only for those
 abbrev pub isMember : Schema → ℕ → ℕ → ℕ → Bool
 isMember g r k j = eqb (regular g r j .oneof) (k + 1)
 

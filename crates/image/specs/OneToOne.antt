@@ -1,4 +1,5 @@
--- Rows and flat numbers are one to one: what the flat order of a sound image is worth to those that read it. Assumes nothing.
+-- Rows and flat numbers are one to one in an image that obeys rule 3 and whose counts and nesting are within their limits (`Sound`, in
+-- Laid). Assumes nothing.
 use mathlib.Core.Path.{_≡_}
 use mathlib.Core.List.{List}
 use mathlib.Core.Bool.{true}

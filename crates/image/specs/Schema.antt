@@ -1,5 +1,5 @@
--- What an image says, row by row: the one argument of every rule that stands above the layout. Which word says it is known to
--- `schemaIn` alone. Assumes nothing.
+-- What an image says, row by row. The flat order, full names, map entries, clashes, oneofs and lookups are stated over it and know of no
+-- words; the layout and the rules of texts go over words, by the offsets of Words. Assumes nothing.
 use mathlib.Core.List.{List}
 use Prim.Native.Nat.{ℕ, _+_}
 use Rattle.lists.specs.Lists.{table}

@@ -28,7 +28,7 @@ number EnumMissing = 16
 number FieldClash = 17
 number NoRoom = 18
 
--- a line of the table: the refusal, given exactly if so, and its place
+-- a line of the table: the refusal, whether it would be given where no line before it is, and its place
 pub record Line : Type 0 where
   pub refusal : Refusal
   pub given : Bool

@@ -1,5 +1,5 @@
 -- Where the words of a file image stand: its trailer, its sections, the rows of each, and the ranges of rows that rows own. This file
--- alone knows how wide rows are. A word past the end of the image reads 0, so that every reader is total. Assumes nothing.
+-- says how wide rows are and which word of a row says what. A word past the end of the image reads 0, so that every reader is total. Assumes nothing.
 use mathlib.Core.List.{List}
 use Prim.Native.Nat.{ℕ, _+_, _-_, _*_}
 use lib.ListN.{length, getD}
