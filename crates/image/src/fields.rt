@@ -130,7 +130,13 @@ pub fn field_by_name(image: &[u32], s: Sections, pool: &[u8], row: Row, text: &[
     Found::Nothing
 }
 
-pub fn field_by_name_or_json(image: &[u32], s: Sections, pool: &[u8], row: Row, text: &[u8]) -> Found
+pub fn field_by_name_or_json(
+    image: &[u32],
+    s: Sections,
+    pool: &[u8],
+    row: Row,
+    text: &[u8],
+) -> Found
     ensures { λ r. ⌜ r ≡ fieldByNameOrJson (schemaIn (now (image .entry)) s (now (pool .entry))) (row .0) (now (text .entry)) ⌝ }
 {
     let g = rows::fields_of(image, s, row);

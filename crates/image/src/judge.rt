@@ -102,7 +102,13 @@ fn judge_numbered(image: &[u32], s: Sections, pool: &[u8], own: &[u32], links: &
 }
 
 // An image that can be numbered: its link rows are written into `own` first.
-fn judge_sound(image: &[u32], s: Sections, pool: &[u8], own: &mut [u32], links: &mut [u32]) -> Judged
+fn judge_sound(
+    image: &[u32],
+    s: Sections,
+    pool: &[u8],
+    own: &mut [u32],
+    links: &mut [u32],
+) -> Judged
     requires { ⌜ s ≡ sectionsOf (now image) ⌝ }
     requires { ⌜ Sound (schemaIn (now image) s (now pool)) ⌝ }
     requires { ⌜ 4096 ≤ length (now own) ⌝ }

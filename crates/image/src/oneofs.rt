@@ -51,7 +51,14 @@ fn optional_oneof(field: &[u32]) -> u32
 }
 
 // How many members each oneof of a message has, and how many of these are proto3_optional. The slices have a place for each oneof.
-pub fn count_members(image: &[u32], s: Sections, pool: &[u8], row: Row, members: &mut [u32], optionals: &mut [u32])
+pub fn count_members(
+    image: &[u32],
+    s: Sections,
+    pool: &[u8],
+    row: Row,
+    members: &mut [u32],
+    optionals: &mut [u32],
+)
     ensures { λ _. ⌜ now (members .exit) ≡ table (length (now (members .entry))) (memberCount (schemaIn (now (image .entry)) s (now (pool .entry))) (row .0)) ⌝ }
     ensures { λ _. ⌜ now (optionals .exit) ≡ table (length (now (optionals .entry))) (optionalMembers (schemaIn (now (image .entry)) s (now (pool .entry))) (row .0)) ⌝ }
 {

@@ -31,7 +31,10 @@ pub fn value_by_name(image: &[u32], s: Sections, pool: &[u8], row: Row, text: &[
     let mut k = g.count;
     while 0 < k {
         k -= 1;
-        if bytes::same_bytes(texts::text_of(image, pool, rows::nth_at(s, Kind::Value, g, k)), text) {
+        if bytes::same_bytes(
+            texts::text_of(image, pool, rows::nth_at(s, Kind::Value, g, k)),
+            text,
+        ) {
             return Found::At(k);
         }
     }

@@ -255,8 +255,14 @@ fn chains() {
     show_chain(b"16 messages, an enum in the last", nested(16, 1, 1, 1, 0));
     show_chain(b"a full name of 512 bytes", nested(6, 64, 58, 0, 128));
     show_chain(b"a full name of 513 bytes", nested(6, 64, 59, 0, 128));
-    show_chain(b"an enum's full name of 512 bytes", nested(5, 64, 64, 58, 128));
-    show_chain(b"an enum's full name of 513 bytes", nested(5, 64, 64, 59, 128));
+    show_chain(
+        b"an enum's full name of 512 bytes",
+        nested(5, 64, 64, 58, 128),
+    );
+    show_chain(
+        b"an enum's full name of 513 bytes",
+        nested(5, 64, 64, 59, 128),
+    );
     show_chain(b"a message name of 64 bytes", nested(1, 1, 64, 0, 0));
     show_chain(b"a message name of 65 bytes", nested(1, 1, 65, 0, 0));
     show_chain(b"a package of 128 bytes", nested(1, 1, 1, 0, 128));
@@ -292,13 +298,27 @@ fn field_texts() {
     let s = sections_of(with(1, 1, 1, 1, 1, 1));
     changed(b"a type name of 512 bytes", s.fields, 6, 512, 11, 0);
     changed(b"a type name of 513 bytes", s.fields, 6, 513, 11, 0);
-    changed(b"a type name of 513 bytes on an int32", s.fields, 6, 513, 5, 0);
+    changed(
+        b"a type name of 513 bytes on an int32",
+        s.fields,
+        6,
+        513,
+        5,
+        0,
+    );
     changed(b"an extendee of 513 bytes", s.fields, 8, 513, 5, 0);
     changed(b"a JSON name of 64 bytes", s.fields, 10, 64, 5, 0);
     changed(b"a JSON name of 65 bytes", s.fields, 10, 65, 5, 0);
     changed(b"a default of 256 bytes", s.fields, 13, 256, 9, 1);
     changed(b"a default of 257 bytes", s.fields, 13, 257, 9, 1);
-    changed(b"a default of 257 bytes, not given", s.fields, 13, 257, 9, 0);
+    changed(
+        b"a default of 257 bytes, not given",
+        s.fields,
+        13,
+        257,
+        9,
+        0,
+    );
 }
 
 pub fn run() {

@@ -59,13 +59,22 @@ returns-6 c =
     rw (c .count-of6 .ensures)
     (sym (all-then
     (rowsFew s Import ∷ rowsFew s Message ∷ rowsFew s Enum ∷ rowsFew s Value ∷ rowsFew s Oneof ∷ [])
-    (rowsFew s Field)
-    (rw (c .before .before .before .before .before .before .before .before .before .before .count-of .ensures) at (le-leb _ _ (c .before .before .before .before .before .before .before .before .before .if1 .left)),
-    (rw (c .before .before .before .before .before .before .before .before .count-of2 .ensures) at (le-leb _ _ (c .before .before .before .before .before .before .before .if2 .left)),
-    (rw (c .before .before .before .before .before .before .count-of3 .ensures) at (le-leb _ _ (c .before .before .before .before .before .if3 .left)),
-    (rw (c .before .before .before .before .count-of4 .ensures) at (le-leb _ _ (c .before .before .before .if4 .left)),
-    (rw (c .before .before .count-of5 .ensures) at (le-leb _ _ (c .before .if5 .left)),
-    tt)))))))
+    (rowsFew s Field) (
+      rw (c .before .before .before .before .before .before .before .before .before .before .count-of .ensures) at (le-leb _ _ (c .before .before .before .before .before .before .before .before .before .if1 .left)),
+      (
+        rw (c .before .before .before .before .before .before .before .before .count-of2 .ensures) at (le-leb _ _ (c .before .before .before .before .before .before .before .if2 .left)),
+        (
+          rw (c .before .before .before .before .before .before .count-of3 .ensures) at (le-leb _ _ (c .before .before .before .before .before .if3 .left)),
+          (
+            rw (c .before .before .before .before .count-of4 .ensures) at (le-leb _ _ (c .before .before .before .if4 .left)),
+            (
+              rw (c .before .before .count-of5 .ensures) at (le-leb _ _ (c .before .if5 .left)),
+              tt,
+            ),
+          ),
+        ),
+      ),
+    )))
 
 pub counts-within-spec : {M : Type 1} → statement M
 counts-within-spec =

@@ -40,11 +40,16 @@ returns-4 c =
     ∷ eqb (wordAt (a .image .now) (extensionRangesAt (rowAt (a .s) Message (a .row .0)))) 0
     ∷ eqb (nestedMessages (a .image .now) (a .s) (a .row .0) .count) 0
     ∷ [])
-    (eqb (enumsOf (a .image .now) (a .s) (a .row .0) .count) 0)
-    (rw (c .before .before .before .before .before .before .before .before .before .extensions-of .ensures) at (eq-eqb _ _ (c .before .before .before .before .before .before .before .if1 .left)),
-    (rw (c .before .before .before .before .before .before .extension-ranges .ensures) at (eq-eqb _ _ (c .before .before .before .before .before .if2 .left)),
-    (rw (c .before .before .before .before .nested-messages .ensures) at (eq-eqb _ _ (c .before .before .if3 .left)),
-    tt)))))
+    (eqb (enumsOf (a .image .now) (a .s) (a .row .0) .count) 0) (
+      rw (c .before .before .before .before .before .before .before .before .before .extensions-of .ensures) at (eq-eqb _ _ (c .before .before .before .before .before .before .before .if1 .left)),
+      (
+        rw (c .before .before .before .before .before .before .extension-ranges .ensures) at (eq-eqb _ _ (c .before .before .before .before .before .if2 .left)),
+        (
+          rw (c .before .before .before .before .nested-messages .ensures) at (eq-eqb _ _ (c .before .before .if3 .left)),
+          tt,
+        ),
+      ),
+    )))
 
 pub is-bare-spec : {M : Type 1} → statement M
 is-bare-spec =

@@ -23,32 +23,35 @@ abbrev μ-loop : tie.MeasureT-loop
 loop-holds : tie.Need-loop-holds Inv-loop μ-loop
 loop-holds c =
     let a = c .before .before .before .before .before .before .before .before .before .before .before .before .before .args in
-    let g = c .fields-of .result in
-    (omega arith,
-    counting-start _ (joins (a .image .now) (a .s) (a .pool .now) g) (c .before .before .before .before .before .before .before .clear .last .0) refl (c .before .before .before .before .before .before .before .clear .ensures),
-    counting-start _ (joinsOptional (a .image .now) (a .s) (a .pool .now) g) (c .before .before .before .clear2 .last .0) refl (c .before .before .before .clear2 .ensures))
+    let g = c .fields-of .result in (
+      omega arith,
+      counting-start _ (joins (a .image .now) (a .s) (a .pool .now) g) (c .before .before .before .before .before .before .before .clear .last .0) refl (c .before .before .before .before .before .before .before .clear .ensures),
+      counting-start _ (joinsOptional (a .image .now) (a .s) (a .pool .now) g) (c .before .before .before .clear2 .last .0) refl (c .before .before .before .clear2 .ensures),
+    )
 
 loop-again : tie.Need-loop-again Inv-loop μ-loop
 loop-again c =
     let a = c .before .before .before .before .before .before .before .before .before .before .before .before .before .before .before .before .before .before .before .before .before .before .before .before .before .before .args in
-    let f = fieldRow (a .image .now) (a .s) (c .before .before .before .before .before .before .before .before .before .before .before .before .before .fields-of .result .first + c .before .before .before .before .before .before .before .before .before .before .before .before .loop .j) in
-    (omega arith,
-    counting-more (c .before .before .before .before .before .before .before .before .before .before .before .before .loop .inv .1) (c .before .before .before .before .before .before .before .before .join .kept .0) (c .before .before .before .before .before .before .before .before .join .ensures) (λ k. rw (c .before .before .before .before .before .before .before .before .before .before .nth-field .ensures)),
-    counting-more (c .before .before .before .before .before .before .before .before .before .before .before .before .loop .inv .2) (c .before .before .join2 .kept .0) (c .before .before .join2 .ensures)
-    (λ k. rw (c .before .before .before .optional-oneof .ensures, c .before .before .before .before .before .before .before .before .before .before .nth-field .ensures) (optional-joins (eqb (wordAt f 15) 1) (wordAt f 14) k)))
+    let f = fieldRow (a .image .now) (a .s) (c .before .before .before .before .before .before .before .before .before .before .before .before .before .fields-of .result .first + c .before .before .before .before .before .before .before .before .before .before .before .before .loop .j) in (
+      omega arith,
+      counting-more (c .before .before .before .before .before .before .before .before .before .before .before .before .loop .inv .1) (c .before .before .before .before .before .before .before .before .join .kept .0) (c .before .before .before .before .before .before .before .before .join .ensures) (λ k. rw (c .before .before .before .before .before .before .before .before .before .before .nth-field .ensures)),
+      counting-more (c .before .before .before .before .before .before .before .before .before .before .before .before .loop .inv .2) (c .before .before .join2 .kept .0) (c .before .before .join2 .ensures)
+          (λ k. rw (c .before .before .before .optional-oneof .ensures, c .before .before .before .before .before .before .before .before .before .before .nth-field .ensures) (optional-joins (eqb (wordAt f 15) 1) (wordAt f 14) k)),
+    )
 
 returns : tie.Need-returns Inv-loop μ-loop
 returns c =
     let a = c .before .before .before .before .before .before .before .before .before .before .before .before .before .before .before .args in
     let g = c .before .before .fields-of .result in
     let l = c .before .loop in
-    let e : l .j ≡ g .count = omega arith in
-    (counting-end (l .inv .1) (g .count) e
-    ∙ members-are (a .image .now) (a .s) (a .pool .now) (a .row .0) (length (c .before .before .before .before .before .before .before .before .before .clear .last .0)) g (c .before .before .fields-of .ensures)
-    ∙ ap (λ (m : ℕ). table m (memberCount (schemaIn (a .image .now) (a .s) (a .pool .now)) (a .row .0))) (c .before .before .before .before .before .before .before .before .before .clear .kept .0),
-    counting-end (l .inv .2) (g .count) e
-    ∙ optionals-are (a .image .now) (a .s) (a .pool .now) (a .row .0) (length (c .before .before .before .before .before .clear2 .last .0)) g (c .before .before .fields-of .ensures)
-    ∙ ap (λ (m : ℕ). table m (optionalMembers (schemaIn (a .image .now) (a .s) (a .pool .now)) (a .row .0))) (c .before .before .before .before .before .clear2 .kept .0))
+    let e : l .j ≡ g .count = omega arith in (
+      counting-end (l .inv .1) (g .count) e
+          ∙ members-are (a .image .now) (a .s) (a .pool .now) (a .row .0) (length (c .before .before .before .before .before .before .before .before .before .clear .last .0)) g (c .before .before .fields-of .ensures)
+          ∙ ap (λ (m : ℕ). table m (memberCount (schemaIn (a .image .now) (a .s) (a .pool .now)) (a .row .0))) (c .before .before .before .before .before .before .before .before .before .clear .kept .0),
+      counting-end (l .inv .2) (g .count) e
+          ∙ optionals-are (a .image .now) (a .s) (a .pool .now) (a .row .0) (length (c .before .before .before .before .before .clear2 .last .0)) g (c .before .before .fields-of .ensures)
+          ∙ ap (λ (m : ℕ). table m (optionalMembers (schemaIn (a .image .now) (a .s) (a .pool .now)) (a .row .0))) (c .before .before .before .before .before .clear2 .kept .0),
+    )
 
 pub count-members-spec : {M : Type 1} → statement M
 count-members-spec =
