@@ -2,7 +2,7 @@
 use mathlib.Core.Path.{_≡_, refl}
 use mathlib.Core.List.{List}
 use Prim.Native.Nat.{ℕ}
-use Rattle.image.specs.Words.{topMessages, topEnums, nestedMessages, enumsOf, fieldsOf, oneofsOf}
+use Rattle.image.specs.Words.{topEnums, nestedMessages, enumsOf, oneofsOf}
 use Rattle.image.specs.Schema.{schemaIn}
 use Rattle.image.specs.declared.rows.Sections.{Sections}
 
@@ -14,10 +14,6 @@ module _ (image : List ℕ) (s : Sections) (pool : List ℕ) where
   pub enum-count-in : schemaIn image s pool .enums ≡ s .enums .count
   unfolding schemaIn
   enum-count-in = refl
-
-  pub top-messages-in : schemaIn image s pool .topMessages ≡ topMessages image
-  unfolding schemaIn
-  top-messages-in = refl
 
   pub top-enums-in : schemaIn image s pool .topEnums ≡ topEnums image
   unfolding schemaIn
@@ -34,7 +30,3 @@ module _ (image : List ℕ) (s : Sections) (pool : List ℕ) where
   pub oneofs-in : (r : ℕ) → oneofsOf image s r ≡ schemaIn image s pool .oneofsIn r
   unfolding schemaIn
   oneofs-in r = refl
-
-  pub fields-in : (r : ℕ) → fieldsOf image s r ≡ schemaIn image s pool .fieldsIn r
-  unfolding schemaIn
-  fields-in r = refl

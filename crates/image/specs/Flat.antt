@@ -2,7 +2,7 @@
 -- nested messages; fields per flat message, regular then extensions; file extensions last. A row is a place in a section of the
 -- image; a flat number is a place in one of the lists below. Assumes nothing.
 use mathlib.Core.List.{List, [], _∷_, _++_}
-use mathlib.Core.Bool.{Bool, true, false, cond, _||_}
+use mathlib.Core.Bool.{Bool, false, cond}
 use Prim.Native.Nat.{ℕ, zero, suc, _+_}
 use lib.Dec.{ltb}
 use lib.ListN.{getD, take}

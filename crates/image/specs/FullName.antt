@@ -10,7 +10,7 @@ use Rattle.lists.specs.Below.{anyBelow, allBelow}
 use Rattle.lists.specs.Lists.{same}
 use Rattle.names.specs.Package.{concatPaths}
 use Rattle.image.specs.Schema.{Schema}
-use Rattle.image.specs.Links.{messageRow, messageUp, enumRow, enumUp, linksOf}
+use Rattle.image.specs.Links.{messageRow, messageUp, enumRow, enumUp}
 
 -- what an enclosing word stands for, given the path of each message: none, or the path of the message whose number it is, plus 1
 unfoldable pub inside : (ℕ → List ℕ) → ℕ → List ℕ

@@ -3,7 +3,7 @@
 -- of full names in FullName (`fullNameLimit`). Assumes nothing.
 use mathlib.Core.List.{List, [], _∷_}
 use mathlib.Core.Bool.{Bool, true, cond}
-use Prim.Native.Nat.{ℕ, _+_}
+use Prim.Native.Nat.{ℕ}
 use lib.Dec.{eqb, leb}
 use lib.ListN.{length}
 use Rattle.lists.specs.Below.{allBelow, allOf}
@@ -110,10 +110,6 @@ unfolding allOf
 textsShort image s pool = allOf (lengthTests image s pool)
 
 -- ---- the whole rule
-
--- counts and nesting: with these, an image that is laid out can be numbered
-abbrev pub numberable : List ℕ → Sections → List ℕ → Bool
-numberable image s pool = allOf (countsWithin s ∷ shallow (schemaIn image s pool) ∷ [])
 
 abbrev pub limitTests : List ℕ → Sections → List ℕ → List Bool
 limitTests image s pool =

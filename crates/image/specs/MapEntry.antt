@@ -1,7 +1,7 @@
 -- Rules 9 to 11, of one message row: what a message with the map-entry option must be. Assumes nothing.
 use mathlib.Core.List.{List, [], _∷_}
 use mathlib.Core.Bool.{Bool, not, _&&_}
-use Prim.Native.Nat.{ℕ, _+_, _-_}
+use Prim.Native.Nat.{ℕ, _-_}
 use lib.Dec.{eqb, leb}
 use lib.ListN.{length, drop}
 use Rattle.lists.specs.Below.{allOf}
@@ -39,19 +39,19 @@ unfolding allOf
 isBare g r = allOf (bareTests g r)
 
 -- a field of that number and name, optional (label 1)
-unfoldable pub isOptional : FieldSays → ℕ → List ℕ → Bool
-isOptional f number name = eqb (f .number) number && (same (f .name) name && eqb (f .label) 1)
+unfoldable pub isEntryField : FieldSays → ℕ → List ℕ → Bool
+isEntryField f number name = eqb (f .number) number && (same (f .name) name && eqb (f .label) 1)
 
 -- the fields are exactly key = 1, value = 2, in that order, both optional
 abbrev pub pairTests : Schema → ℕ → List Bool
 pairTests g r =
     eqb (g .fieldsIn r .count) 2
-    ∷ isOptional (regular g r 0) 1 keyText
-    ∷ isOptional (regular g r 1) 2 valueText
+    ∷ isEntryField (regular g r 0) 1 keyText
+    ∷ isEntryField (regular g r 1) 2 valueText
     ∷ []
 
 unfoldable pub isPair : Schema → ℕ → Bool
-unfolding allOf isOptional
+unfolding allOf isEntryField
 isPair g r = allOf (pairTests g r)
 
 -- the message on row r has the map-entry option

@@ -3,7 +3,7 @@
 use mathlib.Core.Bool.{Bool, _&&_}
 use Prim.Native.Nat.{ℕ, _+_}
 use lib.Dec.{eqb}
-use Rattle.lists.specs.Below.{bit, countBelow}
+use Rattle.lists.specs.Below.{countBelow}
 use Rattle.image.specs.Schema.{Schema, FieldSays}
 
 -- the regular field at place j of message row r

@@ -3,7 +3,6 @@
 use mathlib.Core.List.{List}
 use Prim.Native.Nat.{ℕ, _+_, _-_, _*_}
 use lib.ListN.{length, getD}
-use Rattle.image.specs.declared.rows.Text.{Text}
 use Rattle.image.specs.declared.rows.Range.{Range}
 use Rattle.image.specs.declared.rows.Section.{Section}
 use Rattle.image.specs.declared.rows.Sections.{Sections}
@@ -14,10 +13,7 @@ use Rattle.image.specs.declared.rows.Kind.the-variants.{Import, Message,
 abbrev pub wordAt : List ℕ → ℕ → ℕ
 wordAt image k = getD image k 0
 
--- two words together: a text's start and length, and a range's first row and count
-abbrev pub textAt : List ℕ → ℕ → Text
-textAt image k = record { start = wordAt image k; length = wordAt image (k + 1) }
-
+-- two words together: a range's first row and count
 abbrev pub rangeAt : List ℕ → ℕ → Range
 rangeAt image k = record { first = wordAt image k; count = wordAt image (k + 1) }
 

@@ -10,7 +10,7 @@ use crate::verdict::Verdict;
 use names::bytes;
 ghost use mathlib.Core.Path.{_≡_};
 ghost use Rattle.image.specs.Schema.{fieldOf, schemaIn};
-ghost use Rattle.image.specs.MapEntry.{endsWith, isBare, isOptional, isPair, entryLines};
+ghost use Rattle.image.specs.MapEntry.{endsWith, isBare, isEntryField, isPair, entryLines};
 ghost use Rattle.image.specs.Verdict.{first};
 
 // Whether `s` ends in `t`.
@@ -44,8 +44,8 @@ fn is_bare(image: &[u32], s: Sections, pool: &[u8], row: Row) -> bool
 }
 
 // Whether the field of a row has that number and name and is optional, which is label 1.
-fn is_optional(field: &[u32], pool: &[u8], number: u32, name: &[u8]) -> bool
-    ensures { λ r. ⌜ r ≡ isOptional (fieldOf (now (field .entry)) (now (pool .entry))) number (now (name .entry)) ⌝ }
+fn is_entry_field(field: &[u32], pool: &[u8], number: u32, name: &[u8]) -> bool
+    ensures { λ r. ⌜ r ≡ isEntryField (fieldOf (now (field .entry)) (now (pool .entry))) number (now (name .entry)) ⌝ }
 {
     if rows::word_at(field, 2) != number {
         return false;
@@ -65,11 +65,11 @@ fn is_pair(image: &[u32], s: Sections, pool: &[u8], row: Row) -> bool
         return false;
     }
     let key = rows::nth_field(image, s, g, 0);
-    if !is_optional(&key, pool, 1, b"key") {
+    if !is_entry_field(&key, pool, 1, b"key") {
         return false;
     }
     let value = rows::nth_field(image, s, g, 1);
-    is_optional(&value, pool, 2, b"value")
+    is_entry_field(&value, pool, 2, b"value")
 }
 
 // Rules 9 to 11 of the message on a row, whose flat number is m.

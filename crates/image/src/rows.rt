@@ -29,12 +29,6 @@ pub enum Kind {
     Field,
 }
 
-// Where a text starts in the pool, and its length.
-pub struct Text {
-    pub start: u32,
-    pub length: u32,
-}
-
 // `count` rows from row `first` on.
 pub struct Range {
     pub first: u32,

@@ -48,7 +48,7 @@ fn has_twin(image: &[u32], s: Sections, pool: &[u8], links: &[u32], i: u32) -> b
 }
 
 // Rule 8: whether some item has the full name of an earlier one.
-pub fn shares_name(image: &[u32], s: Sections, pool: &[u8], links: &[u32]) -> bool
+pub(crate) fn shares_name(image: &[u32], s: Sections, pool: &[u8], links: &[u32]) -> bool
     requires { ⌜ Chained (schemaIn (now image) s (now pool)) (now links) ⌝ }
     requires { ⌜ Named (schemaIn (now image) s (now pool)) (now links) ⌝ }
     ensures { λ r. ⌜ r ≡ sharesName (schemaIn (now (image .entry)) s (now (pool .entry))) (now (links .entry)) ⌝ }

@@ -17,8 +17,8 @@ unfolding isPair schemaIn allOf
 returns-2 c =
     simp (
       rw (c .before .before .before .before .before .before .before .fields-of .ensures) at (eq-eqb _ _ (c .before .before .before .before .before .if1 .left)),
-      ← (rw (c .before .before .before .before .nth-field .ensures, c .before .before .before .before .before .before .before .fields-of .ensures) at (c .before .is-optional .ensures)),
-      not-true (c .before .is-optional .result) (c .if2 .taken),
+      ← (rw (c .before .before .before .before .nth-field .ensures, c .before .before .before .before .before .before .before .fields-of .ensures) at (c .before .is-entry-field .ensures)),
+      not-true (c .before .is-entry-field .result) (c .if2 .taken),
     )
 
 returns-3 : tie.Need-returns-3
@@ -26,9 +26,9 @@ unfolding isPair schemaIn allOf
 returns-3 c =
     simp (
       rw (c .before .before .before .before .before .before .before .before .before .before .before .fields-of .ensures) at (eq-eqb _ _ (c .before .before .before .before .before .before .before .before .before .if1 .left)),
-      ← (rw (c .before .before .before .before .before .before .before .before .nth-field .ensures, c .before .before .before .before .before .before .before .before .before .before .before .fields-of .ensures) at (c .before .before .before .before .before .is-optional .ensures)),
-      not-false (c .before .before .before .before .before .is-optional .result) (c .before .before .before .before .if2 .left),
-      ← (rw (c .before .before .before .nth-field2 .ensures, c .before .before .before .before .before .before .before .before .before .before .before .fields-of .ensures) at (c .is-optional2 .ensures)),
+      ← (rw (c .before .before .before .before .before .before .before .before .nth-field .ensures, c .before .before .before .before .before .before .before .before .before .before .before .fields-of .ensures) at (c .before .before .before .before .before .is-entry-field .ensures)),
+      not-false (c .before .before .before .before .before .is-entry-field .result) (c .before .before .before .before .if2 .left),
+      ← (rw (c .before .before .before .nth-field2 .ensures, c .before .before .before .before .before .before .before .before .before .before .before .fields-of .ensures) at (c .is-entry-field2 .ensures)),
       and-true,
     )
 

@@ -1,16 +1,16 @@
--- `image::map_entry::is_optional` meets its contract. Assumes nothing.
+-- `image::map_entry::is_entry_field` meets its contract. Assumes nothing.
 use borrow.Author.Needs.{needs}
 use borrow.Author.Tests.{eq-eqb, ne-eqb, not-true, not-false}
-use Rattle.image.specs.MapEntry.{isOptional}
-use Rattle.image.proofs.map_entry.is_optional.Statement.{statement}
-use Rattle.image.proofs.map_entry.is_optional.Tie as tie
+use Rattle.image.specs.MapEntry.{isEntryField}
+use Rattle.image.proofs.map_entry.is_entry_field.Statement.{statement}
+use Rattle.image.proofs.map_entry.is_entry_field.Tie as tie
 
 returns : tie.Need-returns
-unfolding isOptional
+unfolding isEntryField
 returns c = simp (rw (c .before .word-at .ensures) at (ne-eqb _ _ (c .if1 .taken)))
 
 returns-2 : tie.Need-returns-2
-unfolding isOptional
+unfolding isEntryField
 returns-2 c =
     simp (
       rw (c .before .before .before .before .word-at .ensures) at (eq-eqb _ _ (c .before .before .before .if1 .left)),
@@ -19,7 +19,7 @@ returns-2 c =
     )
 
 returns-3 : tie.Need-returns-3
-unfolding isOptional
+unfolding isEntryField
 returns-3 c =
     simp (
       rw (c .before .before .before .before .before .word-at .ensures) at (eq-eqb _ _ (c .before .before .before .before .if1 .left)),
@@ -28,8 +28,8 @@ returns-3 c =
       c .word-at2 .ensures,
     )
 
-pub is-optional-spec : {M : Type 1} → statement M
-is-optional-spec =
+pub is-entry-field-spec : {M : Type 1} → statement M
+is-entry-field-spec =
     tie.close
     (tie.spec
     (λ c κs. search needs)
