@@ -1,46 +1,69 @@
--- No section of an image within its limit has more rows than there are marks for. Assumes nothing.
+-- No section of an image within its limit has more rows than there are marks for, and no image whose counts are within their limits passes
+-- its own. Assumes nothing.
 use Prim.Native.Nat.{ℕ, _+_, _*_, _≤_}
 use native.Mathlib.Omega.{arith}
 use mathlib.Core.Path.{_≡_}
 use mathlib.Core.List.{List}
-use mathlib.Core.Bool.{true}
+use mathlib.Core.Bool.{true, _&&_}
 use lib.ListN.{length}
-use borrow.Author.Tests.{eqb-true}
-use Rattle.lists.proofs.Cases.{each}
-use Rattle.image.specs.Words.{trailerAt, sectionOf, rowAt, sectionEnd}
-use Rattle.image.specs.Layout.{imageLimit, follows, sectionTests, sectionsFollow}
+use borrow.Author.Tests.{eqb-true, leb-true}
+use Rattle.lists.proofs.Cases.{left, each}
+use Rattle.image.specs.Words.{trailerAt, sectionsOf, sectionOf, rowAt, sectionEnd}
+use Rattle.image.specs.Layout.{imageLimit, follows, sectionTests, sectionsFollow, frameTests, frameFits, allRowsFit, allOwned, laidOut}
+use Rattle.image.specs.Limits.{countTests, countsWithin}
 use Rattle.image.specs.Marks.{rowLimit}
 use Rattle.image.specs.declared.rows.Sections.{Sections}
 use Rattle.image.specs.declared.rows.Kind.{Kind}
 use Rattle.image.specs.declared.rows.Kind.the-variants.{Import, Message, Enum, Value, Oneof, Field}
 
-module _ (end : ℕ) (s : Sections)
-    (a : s .imports .start ≡ 0)
-    (b : s .messages .start ≡ s .imports .start + s .imports .count * 3)
-    (d : s .enums .start ≡ s .messages .start + s .messages .count * 14)
-    (f : s .values .start ≡ s .enums .start + s .enums .count * 4)
-    (g : s .oneofs .start ≡ s .values .start + s .values .count * 3)
-    (h : s .fields .start ≡ s .oneofs .start + s .oneofs .count * 2)
-    (i : end ≡ s .fields .start + s .fields .count * 16)
-    (few : end ≤ imageLimit)
-  where
-    few-by : (kind : Kind) → sectionOf s kind .count ≤ rowLimit
-    few-by Import = omega arith
-    few-by Message = omega arith
-    few-by Enum = omega arith
-    few-by Value = omega arith
-    few-by Oneof = omega arith
-    few-by Field = omega arith
+-- where sections start that follow without gap from word 0 up to the trailer
+pub record Followed (end : ℕ) (s : Sections) : Type 0 where
+  pub imports : s .imports .start ≡ 0
+  pub messages : s .messages .start ≡ s .imports .start + s .imports .count * 3
+  pub enums : s .enums .start ≡ s .messages .start + s .messages .count * 14
+  pub values : s .values .start ≡ s .enums .start + s .enums .count * 4
+  pub oneofs : s .oneofs .start ≡ s .values .start + s .values .count * 3
+  pub fields : s .fields .start ≡ s .oneofs .start + s .oneofs .count * 2
+  pub trailer : end ≡ s .fields .start + s .fields .count * 16
+
+pub followed : (image : List ℕ) (s : Sections) → sectionsFollow image s ≡ true → Followed (trailerAt image) s
+unfolding sectionsFollow follows sectionEnd rowAt
+followed image s e =
+    let t = each (sectionTests image s) e in
+    record {
+      imports = eqb-true (s .imports .start) 0 (t .0);
+      messages = eqb-true (s .messages .start) (sectionEnd s Import) (t .1 .0);
+      enums = eqb-true (s .enums .start) (sectionEnd s Message) (t .1 .1 .0);
+      values = eqb-true (s .values .start) (sectionEnd s Enum) (t .1 .1 .1 .0);
+      oneofs = eqb-true (s .oneofs .start) (sectionEnd s Value) (t .1 .1 .1 .1 .0);
+      fields = eqb-true (s .fields .start) (sectionEnd s Oneof) (t .1 .1 .1 .1 .1 .0);
+      trailer = eqb-true (trailerAt image) (sectionEnd s Field) (t .1 .1 .1 .1 .1 .1 .0);
+    }
+
+few-by : (end : ℕ) (s : Sections) → Followed end s → end ≤ imageLimit → (kind : Kind) → sectionOf s kind .count ≤ rowLimit
+few-by end s f few Import = omega (arith, f, few)
+few-by end s f few Message = omega (arith, f, few)
+few-by end s f few Enum = omega (arith, f, few)
+few-by end s f few Value = omega (arith, f, few)
+few-by end s f few Oneof = omega (arith, f, few)
+few-by end s f few Field = omega (arith, f, few)
 
 pub few-rows : (image : List ℕ) (s : Sections) → length image ≤ imageLimit → sectionsFollow image s ≡ true → (kind : Kind) → sectionOf s kind .count ≤ rowLimit
-unfolding sectionsFollow follows sectionEnd rowAt trailerAt
-few-rows image s h e =
-    let t = each (sectionTests image s) e in
-    few-by (trailerAt image) s (eqb-true (s .imports .start) 0 (t .0))
-    (eqb-true (s .messages .start) (sectionEnd s Import) (t .1 .0))
-    (eqb-true (s .enums .start) (sectionEnd s Message) (t .1 .1 .0))
-    (eqb-true (s .values .start) (sectionEnd s Enum) (t .1 .1 .1 .0))
-    (eqb-true (s .oneofs .start) (sectionEnd s Value) (t .1 .1 .1 .1 .0))
-    (eqb-true (s .fields .start) (sectionEnd s Oneof) (t .1 .1 .1 .1 .1 .0))
-    (eqb-true (trailerAt image) (sectionEnd s Field) (t .1 .1 .1 .1 .1 .1 .0))
-    (omega arith)
+unfolding trailerAt
+few-rows image s h e = few-by (trailerAt image) s (followed image s e) (omega arith)
+
+-- an image that obeys rule 3, and whose counts are within their limits, has at most 50,296 words
+pub few-words : (image : List ℕ) (n : ℕ) → laidOut image n ≡ true → countsWithin (sectionsOf image) ≡ true → length image ≤ imageLimit
+unfolding laidOut frameFits countsWithin trailerAt
+few-words image n p q =
+    let s = sectionsOf image in
+    let frame = left (frameFits image n s) (allRowsFit image n s && allOwned image s) p in
+    let f = followed image s (each (frameTests image n s) frame .1 .1 .0) in
+    let c = each (countTests s) q in
+    let imports = leb-true (s .imports .count) 32 (c .0) in
+    let messages = leb-true (s .messages .count) 256 (c .1 .0) in
+    let enums = leb-true (s .enums .count) 256 (c .1 .1 .0) in
+    let values = leb-true (s .values .count) 4096 (c .1 .1 .1 .0) in
+    let oneofs = leb-true (s .oneofs .count) 256 (c .1 .1 .1 .1 .0) in
+    let fields = leb-true (s .fields .count) 2048 (c .1 .1 .1 .1 .1 .0) in
+    omega (arith, f, imports, messages, enums, values, oneofs, fields)

@@ -1,8 +1,9 @@
 -- The verdict of 3, 4 and 5, test by test, and what the tests before numbering tell. Assumes nothing.
-use mathlib.Core.Path.{_≡_, refl, sym, ap, _∙_}
-use mathlib.Core.List.{List, [], _∷_}
+use mathlib.Core.Path.{_≡_, refl, ap, _∙_}
+use mathlib.Core.List.{List}
 use mathlib.Core.Bool.{Bool, true, false, _&&_}
 use Prim.Native.Nat.{ℕ, _+_, _*_, _≤_}
+use native.Mathlib.Omega.{arith}
 use lib.Dec.{leb}
 use lib.ListN.{length, take, drop}
 use lib.Seq.{take-at}
@@ -14,15 +15,14 @@ use Rattle.lists.proofs.Cases.{by, right, each, and-true}
 use Rattle.image.specs.Words.{sectionsOf}
 use Rattle.image.specs.Layout.{imageLimit, laidOut, laidOutWithinLimit}
 use Rattle.image.specs.Texts.{fileTextTests, rowsTextTests, textsRight}
-use Rattle.image.specs.Schema.{schemaIn}
+use Rattle.image.specs.Schema.{Schema, schemaIn}
 use Rattle.image.specs.Flat.{shallow}
 use Rattle.image.specs.Laid.{LaidOut, Sound}
 use Rattle.image.specs.Links.{linksOf, linkWords}
 use Rattle.image.specs.FullName.{fullNamesShort}
 use Rattle.image.specs.Chained.{Named}
 use Rattle.image.specs.Limits.{countTests, countsWithin, textsShort, withinLimits}
-use Rattle.image.specs.Verdict.{first}
-use Rattle.image.specs.Judge.{openingLines, opening, numberedVerdict}
+use Rattle.image.specs.Judge.{opening, numberedVerdict}
 use Rattle.image.specs.declared.rows.Sections.{Sections}
 use Rattle.image.specs.declared.verdict.Refusal.the-variants.{LayoutBroken, LimitPassed, TextWrong}
 use Rattle.image.specs.declared.verdict.Verdict.the-variants.{Passed, Stopped}
@@ -122,6 +122,10 @@ named-links image s pool p t ok =
 pub words-in : (image : List ℕ) (s : Sections) (pool : List ℕ) → linkWords (schemaIn image s pool) ≡ s .messages .count * 10 + (s .enums .count * 2 + s .oneofs .count * 4)
 unfolding schemaIn
 words-in image s pool = refl
+
+-- 4,096 words are enough for them
+pub links-few : (g : Schema) → Sound g → linkWords g ≤ 4096
+links-few g ok = omega (arith, ok .few-messages, ok .few-enums, ok .few-oneofs)
 
 -- they stand in front of the words that they were written into
 pub front-links : (ws vs : List ℕ) {us : List ℕ} (n : ℕ) → us ≡ splice ws 0 vs → length vs ≡ n → take n us ≡ vs

@@ -2,17 +2,16 @@
 use mathlib.Core.Path.{_≡_}
 use mathlib.Core.List.{List}
 use mathlib.Core.Bool.{Bool, true, false, _&&_, _||_}
-use Prim.Native.Nat.{ℕ, _<_, _≤_, _+_}
+use Prim.Native.Nat.{ℕ, _<_}
 use native.Mathlib.Omega.{arith}
-use lib.Dec.{eqb, leb, ltb}
+use lib.Dec.{eqb, ltb}
 use borrow.Author.Tests.{eqb-true, leb-true, ltb-true}
-use Rattle.lists.specs.Below.{allBelow}
 use Rattle.lists.proofs.Cases.{by, left, right, each}
 use Rattle.lists.proofs.BelowLaws.{allBelow-elim}
 use Rattle.lists.proofs.SpanLaws.{range-ends}
 use Rattle.image.specs.Words.{topMessages, topEnums, sectionsOf, sectionOf, nestedMessages, fileExtensions}
-use Rattle.image.specs.Layout.{frameTests, frameFits, fileTests, fileRangesFit, rowsTests, rowsFit, allRowsFit, owners, ownedOnce, covers, standsLower, parentsLower, ownerTests, allOwned, laidOut}
-use Rattle.image.specs.Schema.{Schema, schemaIn}
+use Rattle.image.specs.Layout.{frameTests, frameFits, fileTests, fileRangesFit, rowsTests, allRowsFit, owners, ownedOnce, covers, standsLower, parentsLower, ownerTests, allOwned, laidOut}
+use Rattle.image.specs.Schema.{schemaIn}
 use Rattle.image.specs.Laid.{LaidOut}
 use Rattle.image.specs.declared.rows.Sections.{Sections}
 use Rattle.image.specs.declared.rows.Kind.{Kind}

@@ -27,7 +27,16 @@ pub mod Owned
 pub mod DepthLaws
 pub mod LinkLaws
 pub mod IndexLaws
+pub mod FieldListLaws
 pub mod WalkLaws
 pub mod OneofLaws
 pub mod ChainLaws
 pub mod JudgeLaws
+pub mod ObeyLaws
+pub mod ShelfLaws
+pub mod PlaceLaws
+pub mod FileLaws
+pub mod LinkTestLaws
+pub mod ReadLaws
+pub mod FileNameLaws
+pub mod AppendLaws

@@ -39,7 +39,7 @@ module _ (g : Schema) where
   range-below : (own : ℕ → Range) (n : ℕ) → Inside g own n → (p : ℕ) → ltb p (g .messages) ≡ true → all (λ x. ltb x n) (ranges own p) ≡ true
   range-below own n inside p h = span-below n (own p .first) (own p .count) (inside p (ltb-true p (g .messages) h))
 
-  fields-length : (r : ℕ) → length (fieldRows g r) ≡ g .fieldsIn r .count + g .extensionsIn r .count
+  pub fields-length : (r : ℕ) → length (fieldRows g r) ≡ g .fieldsIn r .count + g .extensionsIn r .count
   fields-length r =
       length-append (ranges (g .fieldsIn) r) (ranges (g .extensionsIn) r)
       ∙ rw (range-length (g .fieldsIn) r, range-length (g .extensionsIn) r)

@@ -1,4 +1,4 @@
--- Laws of the texts of an image. Assumes nothing.
+-- Laws of texts, and of parts of lists. Assumes nothing.
 use Prim.Native.Nat.{ℕ, _+_, _-_, _≤_}
 use native.Mathlib.Omega.{arith}
 use mathlib.Core.Path.{_≡_, refl, sym, _∙_}
@@ -6,28 +6,21 @@ use mathlib.Core.List.{List, [], _∷_}
 use mathlib.Core.Bool.{true, false}
 use lib.ListN.{length, take, drop, length-drop, drop-of-length-le}
 use lib.Seq.{take-all, take-nil}
-use Rattle.lists.specs.Lists.{isEmpty, same}
+use Rattle.lists.specs.Lists.{isEmpty, same, part}
 use Rattle.lists.proofs.Cases.{by, clash}
 use Rattle.lists.proofs.ListLaws.{same-refl, same-is, same-differ}
-use Rattle.image.specs.Words.{wordAt}
-use Rattle.image.specs.Texts.{textOf}
 
-module _ (image pool : List ℕ) (k : ℕ) where
-  pub text-none : length pool ≤ wordAt image k → [] ≡ textOf image pool k
-  unfolding textOf
-  text-none h = rw (drop-of-length-le pool h, take-nil {A = ℕ} (wordAt image (k + 1)))
+-- ---- parts of a list, as they are cut out: nothing, all from a place on, or what stands between two places
 
-  pub text-rest : length pool - wordAt image k ≤ wordAt image (k + 1) → take (length pool - wordAt image k) (drop (wordAt image k) pool) ≡ textOf image pool k
-  unfolding textOf
-  text-rest h =
-      rw (
-        take-all (length pool - wordAt image k) (drop (wordAt image k) pool) (rw length-drop (omega arith)),
-        take-all (wordAt image (k + 1)) (drop (wordAt image k) pool) (rw length-drop h),
-      )
+module _ {A : Type 0} (l : List A) (k n : ℕ) where
+  pub part-none : length l ≤ k → [] ≡ part k n l
+  part-none h = rw (drop-of-length-le l h, take-nil {A = A} n)
 
-  pub text-part : take (wordAt image k + wordAt image (k + 1) - wordAt image k) (drop (wordAt image k) pool) ≡ textOf image pool k
-  unfolding textOf
-  text-part = let e : wordAt image k + wordAt image (k + 1) - wordAt image k ≡ wordAt image (k + 1) = omega arith in rw e
+  pub part-rest : length l - k ≤ n → take (length l - k) (drop k l) ≡ part k n l
+  part-rest h = rw (take-all (length l - k) (drop k l) (rw length-drop (omega arith)), take-all n (drop k l) (rw length-drop h))
+
+  pub part-between : take (k + n - k) (drop k l) ≡ part k n l
+  part-between = let e : k + n - k ≡ n = omega arith in rw e
 
 pub empty-none : (l : List ℕ) → length l ≡ 0 → isEmpty l ≡ true
 unfolding isEmpty

@@ -21,3 +21,7 @@ pub mod MapEntry
 pub mod Clash
 pub mod Values
 pub mod Judge
+pub mod Record
+pub mod LinkTests
+pub mod Shelf
+pub mod Places

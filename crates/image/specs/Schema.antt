@@ -3,11 +3,11 @@
 use mathlib.Core.List.{List}
 use Prim.Native.Nat.{ℕ, _+_}
 use Rattle.lists.specs.Lists.{table}
-use Rattle.image.specs.Words.{wordAt, trailerAt, topMessages, topEnums, sectionsOf, rowAt, nestedMessages, enumsOf, fieldsOf, extensionsOf, oneofsOf, valuesOf, fileExtensions, extensionRangesAt, mapEntryAt, numberAt, labelAt, typeAt, typeNameAt, extendeeAt, jsonNameAt, givenAt, defaultAt, oneofAt, optionalAt, packageAt}
+use Rattle.image.specs.Words.{wordAt, trailerAt, topMessages, topEnums, sectionsOf, rowAt, nestedMessages, enumsOf, fieldsOf, extensionsOf, oneofsOf, valuesOf, fileExtensions, extensionRangesAt, mapEntryAt, numberAt, labelAt, typeAt, typeNameAt, extendeeAt, jsonNameAt, givenAt, defaultAt, oneofAt, optionalAt, fileNameAt, packageAt, syntaxAt, publicAt}
 use Rattle.image.specs.Texts.{textOf}
 use Rattle.image.specs.declared.rows.Range.{Range}
 use Rattle.image.specs.declared.rows.Sections.{Sections}
-use Rattle.image.specs.declared.rows.Kind.the-variants.{Message, Enum, Value, Field}
+use Rattle.image.specs.declared.rows.Kind.the-variants.{Import, Message, Enum, Value, Field}
 
 -- a field row. Texts are lists of bytes; `oneof` is an index + 1, or 0; `given` and `optional` are 0 or 1
 pub record FieldSays : Type 0 where
@@ -24,8 +24,12 @@ pub record FieldSays : Type 0 where
   pub optional : ℕ
 
 pub record Schema : Type 0 where
+  pub fileName : List ℕ
   pub «package» : List ℕ
+  -- 2 or 3 in an image that obeys rule 3
+  pub syntax : ℕ
   -- how many rows there are
+  pub imports : ℕ
   pub messages : ℕ
   pub enums : ℕ
   pub oneofs : ℕ
@@ -34,6 +38,9 @@ pub record Schema : Type 0 where
   pub topMessages : ℕ
   pub topEnums : ℕ
   pub fileExtensions : Range
+  -- of an import row: the name of the file that is imported, and whether it is public, 0 or 1
+  pub importName : ℕ → List ℕ
+  pub importPublic : ℕ → ℕ
   -- of a message row: its name, what it owns, its number of extension ranges, its map-entry option
   pub messageName : ℕ → List ℕ
   pub nested : ℕ → Range
@@ -80,7 +87,10 @@ unfoldable pub schemaIn : List ℕ → Sections → List ℕ → Schema
 unfolding rowAt textOf table
 schemaIn image s pool =
     record {
+      fileName = textOf image pool (fileNameAt (trailerAt image));
       «package» = textOf image pool (packageAt (trailerAt image));
+      syntax = wordAt image (syntaxAt (trailerAt image));
+      imports = s .imports .count;
       messages = s .messages .count;
       enums = s .enums .count;
       oneofs = s .oneofs .count;
@@ -88,6 +98,8 @@ schemaIn image s pool =
       topMessages = topMessages image;
       topEnums = topEnums image;
       fileExtensions = fileExtensions image;
+      importName = λ r. textOf image pool (rowAt s Import r);
+      importPublic = λ r. wordAt image (publicAt (rowAt s Import r));
       messageName = λ r. textOf image pool (rowAt s Message r);
       nested = nestedMessages image s;
       enumsIn = enumsOf image s;

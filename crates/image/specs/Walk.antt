@@ -8,7 +8,7 @@ use lib.ListN.{length, getD, take}
 use Rattle.lists.specs.Below.{bit}
 use Rattle.lists.specs.Lists.{span, all, concatMap}
 use Rattle.image.specs.Schema.{Schema}
-use Rattle.image.specs.Flat.{rowsOf, rowOf, within, walked, flatMessages, outer, firstEnum, firstOneof, tallyAt}
+use Rattle.image.specs.Flat.{rowsOf, rowOf, fieldRows, within, walked, flatMessages, outer, firstEnum, firstOneof, tallyAt}
 use Rattle.image.specs.Laid.{Sound}
 use Rattle.image.specs.Members.{memberCount, synthetic}
 use Rattle.image.specs.Links.{messageLinkWidth, enumLinkWidth, oneofLinkWidth, messageLinks, enumLink, oneofLink}
@@ -73,6 +73,10 @@ enumPart g m = concatMap (enumLink (m + 1)) (rowsOf (g .enumsIn (rowOf g m)))
 
 abbrev pub enumLinksAt : Schema → ℕ → ℕ
 enumLinksAt g m = g .messages * messageLinkWidth + firstEnum g m * enumLinkWidth
+
+-- the fields of flat message m, extensions last
+abbrev pub fieldPart : Schema → ℕ → List ℕ
+fieldPart g m = fieldRows g (rowOf g m)
 
 abbrev pub oneofPart : Schema → ℕ → List ℕ
 oneofPart g m = concatMap (oneofLink g m) (span 0 (g .oneofsIn (rowOf g m) .count))

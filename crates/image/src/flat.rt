@@ -11,10 +11,11 @@ ghost use lib.ListN.{length};
 ghost use Rattle.lists.specs.Lists.{span, all, concatMap};
 ghost use Rattle.lists.specs.Splice.{splice};
 ghost use Rattle.image.specs.Schema.{schemaIn};
-ghost use Rattle.image.specs.Flat.{walked, tallyAt, within, shallow};
+ghost use Rattle.image.specs.Flat.{rowsOf, flatFields, firstField, walked, tallyAt, within, shallow};
+ghost use Rattle.image.specs.Record.{repeated, containersIn, containers};
 ghost use Rattle.image.specs.Laid.{LaidOut, Sound};
 ghost use Rattle.image.specs.Links.{messageLinkWidth, enumLinkWidth, messageLinks, enumLinks, oneofLinks, linksOf, linkWords};
-ghost use Rattle.image.specs.Walk.{tallied, InWords, Entering, Indexed, enumPart, enumLinksAt, oneofLinksAt};
+ghost use Rattle.image.specs.Walk.{tallied, InWords, Entering, Indexed, enumPart, fieldPart, enumLinksAt, oneofLinksAt};
 
 // The next free flat numbers, which each step of the walk takes and hands on.
 pub struct Tally {
@@ -118,7 +119,7 @@ fn index_messages_and_inners(
         let row = Row(first + k);
         let me = Flat(u.messages);
         let link = links::message_link(image, s, pool, row, outside, u);
-        links::put_words(links, me.0 as usize * 10, &link);
+        links::put_words(links, me.0 as usize * links::MESSAGE_LINK, &link);
         let v = tally_behind(image, s, pool, row, u);
         let inner = rows::nested_messages(image, s, row);
         u = index_messages_and_inners(image, s, pool, inner, me.0 + 1, depth - 1, links, v);
@@ -158,7 +159,7 @@ fn link_inner_enums(image: &[u32], s: Sections, pool: &[u8], at: usize, links: &
     while m < n {
         let g = rows::enums_of(image, s, links::message_row(links, Flat(m)));
         links::put_enum_links(links, to, g, m + 1);
-        to += g.count as usize * 2;
+        to += g.count as usize * links::ENUM_LINK;
         m += 1;
     }
 }
@@ -170,10 +171,16 @@ fn link_enums(image: &[u32], s: Sections, pool: &[u8], links: &mut [u32])
     requires { ⌜ schemaIn (now image) s (now pool) .messages * messageLinkWidth + schemaIn (now image) s (now pool) .enums * enumLinkWidth ≤ length (now links) ⌝ }
     ensures { λ _. ⌜ now (links .exit) ≡ splice (now (links .entry)) (schemaIn (now (image .entry)) s (now (pool .entry)) .messages * messageLinkWidth) (enumLinks (schemaIn (now (image .entry)) s (now (pool .entry))) (schemaIn (now (image .entry)) s (now (pool .entry)) .messages)) ⌝ }
 {
-    let at = s.messages.count as usize * 10;
+    let at = s.messages.count as usize * links::MESSAGE_LINK;
     let count = rows::trailer_word(image, 19);
     links::put_enum_links(links, at, Range { first: 0, count }, 0);
-    link_inner_enums(image, s, pool, at + count as usize * 2, links);
+    link_inner_enums(
+        image,
+        s,
+        pool,
+        at + count as usize * links::ENUM_LINK,
+        links,
+    );
 }
 
 // The link rows of all oneofs, in flat order, behind those of the enums.
@@ -184,13 +191,13 @@ fn link_oneofs(image: &[u32], s: Sections, pool: &[u8], links: &mut [u32])
     ensures { λ _. ⌜ now (links .exit) ≡ splice (now (links .entry)) (oneofLinksAt (schemaIn (now (image .entry)) s (now (pool .entry))) 0) (oneofLinks (schemaIn (now (image .entry)) s (now (pool .entry))) (schemaIn (now (image .entry)) s (now (pool .entry)) .messages)) ⌝ }
 {
     let n = s.messages.count;
-    let mut to = n as usize * 10 + s.enums.count as usize * 2;
+    let mut to = n as usize * links::MESSAGE_LINK + s.enums.count as usize * links::ENUM_LINK;
     let mut m: u32 = 0;
     while m < n {
         let row = links::message_row(links, Flat(m));
         let g = rows::oneofs_of(image, s, row);
         links::put_oneof_links(image, s, pool, Flat(m), row, to, links);
-        to += g.count as usize * 4;
+        to += g.count as usize * links::ONEOF_LINK;
         m += 1;
     }
 }
@@ -235,4 +242,80 @@ pub(crate) fn is_shallow(image: &[u32], s: Sections, pool: &[u8]) -> bool
 {
     let count = rows::trailer_word(image, 18);
     levels_within(image, s, pool, Range { first: 0, count }, 16)
+}
+
+// Lists a range of fields from place `at` on: their image rows, and for each the same containing word.
+fn put_fields(homes: &mut [u32], holders: &mut [u32], at: usize, g: Range, container: u32)
+    requires { ⌜ g .first + g .count < 2 ^ 32 ⌝ }
+    requires { ⌜ at + g .count ≤ length (now homes) ⌝ }
+    requires { ⌜ at + g .count ≤ length (now holders) ⌝ }
+    ensures { λ _. ⌜ now (homes .exit) ≡ splice (now (homes .entry)) at (rowsOf g) ⌝ }
+    ensures { λ _. ⌜ now (holders .exit) ≡ splice (now (holders .entry)) at (repeated (g .count) container) ⌝ }
+{
+    let first = g.first;
+    let count = g.count;
+    let mut k: u32 = 0;
+    while k < count {
+        homes[at + k as usize] = first + k;
+        holders[at + k as usize] = container;
+        k += 1;
+    }
+}
+
+// Lists the fields of all messages in flat order, and answers how many there are. `links` are the file's link rows.
+fn list_message_fields(
+    image: &[u32],
+    s: Sections,
+    pool: &[u8],
+    links: &[u32],
+    homes: &mut [u32],
+    holders: &mut [u32],
+) -> usize
+    requires { ⌜ Sound (schemaIn (now image) s (now pool)) ⌝ }
+    requires { ⌜ Indexed (schemaIn (now image) s (now pool)) (now links) ⌝ }
+    requires { ⌜ 2048 ≤ length (now homes) ⌝ }
+    requires { ⌜ 2048 ≤ length (now holders) ⌝ }
+    ensures { λ r. ⌜ r ≡ firstField (schemaIn (now (image .entry)) s (now (pool .entry))) (schemaIn (now (image .entry)) s (now (pool .entry)) .messages) ⌝ }
+    ensures { λ _. ⌜ now (homes .exit) ≡ splice (now (homes .entry)) 0 (concatMap (fieldPart (schemaIn (now (image .entry)) s (now (pool .entry)))) (span 0 (schemaIn (now (image .entry)) s (now (pool .entry)) .messages))) ⌝ }
+    ensures { λ _. ⌜ now (holders .exit) ≡ splice (now (holders .entry)) 0 (concatMap (containersIn (schemaIn (now (image .entry)) s (now (pool .entry)))) (span 0 (schemaIn (now (image .entry)) s (now (pool .entry)) .messages))) ⌝ }
+{
+    let n = s.messages.count;
+    let mut to: usize = 0;
+    let mut m: u32 = 0;
+    while m < n {
+        let row = links::message_row(links, Flat(m));
+        let fields = rows::fields_of(image, s, row);
+        let extensions = rows::extensions_of(image, s, row);
+        put_fields(homes, holders, to, fields, m + 1);
+        put_fields(
+            homes,
+            holders,
+            to + fields.count as usize,
+            extensions,
+            m + 1,
+        );
+        to += fields.count as usize + extensions.count as usize;
+        m += 1;
+    }
+    to
+}
+
+// Lists all fields in flat order: the image row of each in `homes`, its containing word in `holders`.
+pub(crate) fn list_fields(
+    image: &[u32],
+    s: Sections,
+    pool: &[u8],
+    links: &[u32],
+    homes: &mut [u32],
+    holders: &mut [u32],
+)
+    requires { ⌜ Sound (schemaIn (now image) s (now pool)) ⌝ }
+    requires { ⌜ now links ≡ linksOf (schemaIn (now image) s (now pool)) ⌝ }
+    requires { ⌜ 2048 ≤ length (now homes) ⌝ }
+    requires { ⌜ 2048 ≤ length (now holders) ⌝ }
+    ensures { λ _. ⌜ now (homes .exit) ≡ splice (now (homes .entry)) 0 (flatFields (schemaIn (now (image .entry)) s (now (pool .entry)))) ⌝ }
+    ensures { λ _. ⌜ now (holders .exit) ≡ splice (now (holders .entry)) 0 (containers (schemaIn (now (image .entry)) s (now (pool .entry)))) ⌝ }
+{
+    let at = list_message_fields(image, s, pool, links, homes, holders);
+    put_fields(homes, holders, at, rows::file_extensions(image), 0);
 }

@@ -4,7 +4,6 @@ use crate::links;
 use crate::rows;
 use crate::rows::Flat;
 use crate::rows::Kind;
-use crate::rows::Row;
 use crate::rows::Sections;
 use crate::texts;
 use names::bytes;

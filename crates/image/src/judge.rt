@@ -13,12 +13,12 @@ use crate::texts;
 use crate::verdict::Refusal;
 use crate::verdict::Verdict;
 ghost use mathlib.Core.Path.{_≡_};
-ghost use Prim.Native.Nat.{_+_, _*_, _≤_};
+ghost use Prim.Native.Nat.{_+_, _≤_};
 ghost use lib.ListN.{length};
 ghost use Rattle.image.specs.Words.{sectionsOf};
 ghost use Rattle.image.specs.Schema.{schemaIn, schemaOf};
 ghost use Rattle.image.specs.Laid.{Sound};
-ghost use Rattle.image.specs.Links.{linksOf, linkWords};
+ghost use Rattle.image.specs.Links.{linksOf};
 ghost use Rattle.image.specs.Chained.{Chained, Named};
 ghost use Rattle.image.specs.Verdict.{first};
 ghost use Rattle.image.specs.Judge.{mapEntryLines, namingLines, opening, judgedBy, linksBy, numberedVerdict};
@@ -69,13 +69,6 @@ fn refused(r: Refusal) -> Judged
     }
 }
 
-// How many words the link rows of messages, enums and oneofs have.
-fn link_words(s: Sections) -> usize
-    ensures { λ r. ⌜ r ≡ s .messages .count * 10 + (s .enums .count * 2 + s .oneofs .count * 4) ⌝ }
-{
-    s.messages.count as usize * 10 + (s.enums.count as usize * 2 + s.oneofs.count as usize * 4)
-}
-
 // An image whose link rows are `own`: what is left of 4 and 5, then 8 to 11.
 fn judge_numbered(image: &[u32], s: Sections, pool: &[u8], own: &[u32], links: &mut [u32]) -> Judged
     requires { ⌜ s ≡ sectionsOf (now image) ⌝ }
@@ -116,7 +109,7 @@ fn judge_sound(
     ensures { λ _. ⌜ now (links .exit) ≡ linksBy (numberedVerdict (now (image .entry)) s (now (pool .entry))) (schemaIn (now (image .entry)) s (now (pool .entry))) (now (links .entry)) ⌝ }
 {
     flat::number(image, s, pool, own);
-    let n = link_words(s);
+    let n = links::link_words(s);
     judge_numbered(image, s, pool, &own[..n], links)
 }
 

@@ -13,8 +13,33 @@ ghost use Rattle.lists.specs.Lists.{span, concatMap};
 ghost use Rattle.lists.specs.Splice.{splice, fronted};
 ghost use Rattle.image.specs.Schema.{schemaIn};
 ghost use Rattle.image.specs.Flat.{rowsOf};
-ghost use Rattle.image.specs.Links.{enumLinkWidth, oneofLinkWidth, enumLink, messageRow, messageUp, enumRow, enumUp};
+ghost use Rattle.image.specs.Links.{messageLinkWidth, enumLinkWidth, oneofLinkWidth, enumLink, messageRow, messageUp, enumRow, enumUp};
+ghost use Rattle.image.specs.Record.{fieldLinkWidth, linkRow, messageLinkAt, enumLinkAt, oneofLinkAt, fieldLinkAt};
 ghost use Rattle.image.specs.Walk.{linkAt, oneofRow, countedRow};
+
+// How many words the link row of a message, an enum, a oneof and a field has.
+pub(crate) const MESSAGE_LINK: usize = 10;
+
+pub(crate) const ENUM_LINK: usize = 2;
+
+pub(crate) const ONEOF_LINK: usize = 4;
+
+pub(crate) const FIELD_LINK: usize = 16;
+
+// How many words the link rows of messages, enums and oneofs have.
+pub(crate) fn link_words(s: Sections) -> usize
+    ensures { λ r. ⌜ r ≡ s .messages .count * messageLinkWidth + (s .enums .count * enumLinkWidth + s .oneofs .count * oneofLinkWidth) ⌝ }
+{
+    s.messages.count as usize * MESSAGE_LINK
+        + (s.enums.count as usize * ENUM_LINK + s.oneofs.count as usize * ONEOF_LINK)
+}
+
+// How many words all link rows have.
+pub(crate) fn link_row_words(s: Sections) -> usize
+    ensures { λ r. ⌜ r ≡ s .messages .count * messageLinkWidth + (s .enums .count * enumLinkWidth + s .oneofs .count * oneofLinkWidth) + s .fields .count * fieldLinkWidth ⌝ }
+{
+    link_words(s) + s.fields.count as usize * FIELD_LINK
+}
 
 // Writes all of `src` into `words` from word `at` on.
 pub(crate) fn put_words(words: &mut [u32], at: usize, src: &[u32])
@@ -70,30 +95,75 @@ pub(crate) fn message_link(
 pub fn message_row(links: &[u32], m: Flat) -> Row
     ensures { λ r. ⌜ r .0 ≡ messageRow (now (links .entry)) (m .0) ⌝ }
 {
-    Row(rows::word_at(links, m.0 as usize * 10))
+    Row(rows::word_at(links, m.0 as usize * MESSAGE_LINK))
 }
 
 // The enclosing word of a message.
 pub fn message_up(links: &[u32], m: Flat) -> u32
     ensures { λ r. ⌜ r ≡ messageUp (now (links .entry)) (m .0) ⌝ }
 {
-    rows::word_at(links, m.0 as usize * 10 + 1)
+    rows::word_at(links, m.0 as usize * MESSAGE_LINK + 1)
 }
 
 // The image row of an enum.
 pub fn enum_row(image: &[u32], s: Sections, pool: &[u8], links: &[u32], e: Flat) -> Row
     ensures { λ r. ⌜ r .0 ≡ enumRow (schemaIn (now (image .entry)) s (now (pool .entry))) (now (links .entry)) (e .0) ⌝ }
 {
-    let first = s.messages.count as usize * 10;
-    Row(rows::word_at(links, first + e.0 as usize * 2))
+    let first = s.messages.count as usize * MESSAGE_LINK;
+    Row(rows::word_at(links, first + e.0 as usize * ENUM_LINK))
 }
 
 // The enclosing word of an enum.
 pub fn enum_up(image: &[u32], s: Sections, pool: &[u8], links: &[u32], e: Flat) -> u32
     ensures { λ r. ⌜ r ≡ enumUp (schemaIn (now (image .entry)) s (now (pool .entry))) (now (links .entry)) (e .0) ⌝ }
 {
-    let first = s.messages.count as usize * 10;
-    rows::word_at(links, first + e.0 as usize * 2 + 1)
+    let first = s.messages.count as usize * MESSAGE_LINK;
+    rows::word_at(links, first + e.0 as usize * ENUM_LINK + 1)
+}
+
+// The link row of a message, an enum, a oneof or a field, among the link rows of a file.
+pub fn message_link_row(links: &[u32], m: Flat) -> [u32; 10]
+    ensures { λ r. ⌜ r ≡ linkRow (now (links .entry)) (messageLinkAt (m .0)) messageLinkWidth ⌝ }
+{
+    let at = m.0 as usize * MESSAGE_LINK;
+    [
+        rows::word_at(links, at),
+        rows::word_at(links, at + 1),
+        rows::word_at(links, at + 2),
+        rows::word_at(links, at + 3),
+        rows::word_at(links, at + 4),
+        rows::word_at(links, at + 5),
+        rows::word_at(links, at + 6),
+        rows::word_at(links, at + 7),
+        rows::word_at(links, at + 8),
+        rows::word_at(links, at + 9),
+    ]
+}
+
+pub fn enum_link_row(image: &[u32], s: Sections, pool: &[u8], links: &[u32], e: Flat) -> [u32; 2]
+    ensures { λ r. ⌜ r ≡ linkRow (now (links .entry)) (enumLinkAt (schemaIn (now (image .entry)) s (now (pool .entry))) (e .0)) enumLinkWidth ⌝ }
+{
+    let at = s.messages.count as usize * MESSAGE_LINK + e.0 as usize * ENUM_LINK;
+    [rows::word_at(links, at), rows::word_at(links, at + 1)]
+}
+
+pub fn oneof_link_row(image: &[u32], s: Sections, pool: &[u8], links: &[u32], o: Flat) -> [u32; 4]
+    ensures { λ r. ⌜ r ≡ linkRow (now (links .entry)) (oneofLinkAt (schemaIn (now (image .entry)) s (now (pool .entry))) (o .0)) oneofLinkWidth ⌝ }
+{
+    let at = s.messages.count as usize * MESSAGE_LINK
+        + (s.enums.count as usize * ENUM_LINK + o.0 as usize * ONEOF_LINK);
+    [
+        rows::word_at(links, at),
+        rows::word_at(links, at + 1),
+        rows::word_at(links, at + 2),
+        rows::word_at(links, at + 3),
+    ]
+}
+
+pub fn field_link_row(image: &[u32], s: Sections, pool: &[u8], links: &[u32], k: Flat) -> [u32; 16]
+    ensures { λ r. ⌜ r ≡ linkRow (now (links .entry)) (fieldLinkAt (schemaIn (now (image .entry)) s (now (pool .entry))) (k .0)) fieldLinkWidth ⌝ }
+{
+    rows::field_row_at(links, link_words(s) + k.0 as usize * FIELD_LINK)
 }
 
 // Writes the link rows of a range of enums, with their enclosing word, into `links` from word `at` on.
@@ -107,7 +177,7 @@ pub(crate) fn put_enum_links(links: &mut [u32], at: usize, g: Range, outside: u3
     let mut k: u32 = 0;
     while k < count {
         let link = [first + k, outside];
-        put_words(links, at + k as usize * 2, &link);
+        put_words(links, at + k as usize * ENUM_LINK, &link);
         k += 1;
     }
 }
@@ -129,7 +199,7 @@ fn put_counted(m: Flat, n: u32, members: &[u32], optionals: &[u32], at: usize, l
     let mut k: u32 = 0;
     while k < n {
         let link = oneof_link(m, k, members, optionals);
-        put_words(links, at + k as usize * 4, &link);
+        put_words(links, at + k as usize * ONEOF_LINK, &link);
         k += 1;
     }
 }

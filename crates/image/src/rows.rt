@@ -2,7 +2,7 @@
 ghost use mathlib.Core.Path.{_≡_};
 ghost use Prim.Native.Nat.{_+_, _*_, _≤_, _<_, _^_};
 ghost use lib.ListN.{length};
-ghost use Rattle.lists.specs.Lists.{table};
+ghost use Rattle.lists.specs.Lists.{part, table};
 ghost use Rattle.image.specs.Words.{wordAt, rangeAt, trailerAt, trailerWord, sectionAt, sectionsOf, sectionOf, rowWidth, rowAt, sectionEnd, nestedMessages, enumsOf, fieldsOf, extensionsOf, oneofsOf, valuesOf, fileExtensions, extensionRangesAt, mapEntryAt};
 ghost use Rattle.image.specs.Schema.{fieldRow};
 ghost use Rattle.image.specs.declared.rows.Kind.the-variants.{Message};
@@ -59,6 +59,20 @@ pub fn word_at(image: &[u32], at: usize) -> u32
         return image[at];
     }
     0
+}
+
+// `n` words from word `start` on, as far as there are any.
+pub(crate) fn words_part<'a>(words: &'a [u32], start: usize, n: usize) -> &'a [u32]
+    ensures { λ r. ⌜ now r ≡ part start n (now (words .entry)) ⌝ }
+{
+    if words.len() <= start {
+        return &words[..0];
+    }
+    if words.len() - start <= n {
+        return &words[start..];
+    }
+    let end = start + n;
+    &words[start..end]
 }
 
 // Where the trailer starts, if the image is long enough for one.

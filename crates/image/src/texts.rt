@@ -7,23 +7,29 @@ use names::bytes;
 ghost use mathlib.Core.Path.{_≡_};
 ghost use Prim.Native.Nat.{_<_, _^_};
 ghost use Rattle.lists.specs.Below.{allOf};
+ghost use Rattle.lists.specs.Lists.{part};
 ghost use Rattle.image.specs.Texts.{textOf, needsTypeName, typeNameRight, extendeeRight, defaultRight, fieldTexts, rowTextsRight, kindTextsRight, fileTextTests, rowsTextTests, textsRight};
+
+// `n` bytes from byte `start` on, as far as there are any.
+pub(crate) fn bytes_part<'a>(bytes: &'a [u8], start: usize, n: usize) -> &'a [u8]
+    ensures { λ r. ⌜ now r ≡ part start n (now (bytes .entry)) ⌝ }
+{
+    if bytes.len() <= start {
+        return &bytes[..0];
+    }
+    if bytes.len() - start <= n {
+        return &bytes[start..];
+    }
+    let end = start + n;
+    &bytes[start..end]
+}
 
 // The text whose start and length stand at word `at`, as far as the pool goes.
 pub fn text_of<'a>(image: &[u32], pool: &'a [u8], at: usize) -> &'a [u8]
     ensures { λ r. ⌜ now r ≡ textOf (now (image .entry)) (now (pool .entry)) at ⌝ }
 {
     let t = rows::range_at(image, at);
-    let start = t.first as usize;
-    let length = t.count as usize;
-    if pool.len() <= start {
-        return &pool[..0];
-    }
-    if pool.len() - start <= length {
-        return &pool[start..];
-    }
-    let end = start + length;
-    &pool[start..end]
+    bytes_part(pool, t.first as usize, t.count as usize)
 }
 
 // Whether a field of that type must have a type name.

@@ -1,25 +1,26 @@
-// The files of a list of cases. Each is judged by itself.
+// The files of a list of cases. Each is judged by itself. Shelves stand among them.
 use crate::answers;
 use crate::answers::Answer;
 use crate::say;
+use crate::shelves;
 use crate::tokens;
 use crate::tokens::Token;
 use image::rows;
 
-fn set_word(words: &mut [u32], at: usize, word: u32) {
+pub fn set_word(words: &mut [u32], at: usize, word: u32) {
     if at < words.len() {
         words[at] = word;
     }
 }
 
-fn set_byte(bytes: &mut [u8], at: usize, byte: u8) {
+pub fn set_byte(bytes: &mut [u8], at: usize, byte: u8) {
     if at < bytes.len() {
         bytes[at] = byte;
     }
 }
 
 // Reads n words from the token behind `at` on; the answer is where they end.
-fn read_words(text: &[u8], at: usize, words: &mut [u32], n: usize) -> usize {
+pub fn read_words(text: &[u8], at: usize, words: &mut [u32], n: usize) -> usize {
     let mut end = at;
     let mut i = 0;
     while i < n {
@@ -32,7 +33,7 @@ fn read_words(text: &[u8], at: usize, words: &mut [u32], n: usize) -> usize {
 }
 
 // Reads n bytes of a pool.
-fn read_bytes(text: &[u8], at: usize, bytes: &mut [u8], n: usize) -> usize {
+pub fn read_bytes(text: &[u8], at: usize, bytes: &mut [u8], n: usize) -> usize {
     let mut end = at;
     let mut i = 0;
     while i < n {
@@ -44,7 +45,7 @@ fn read_bytes(text: &[u8], at: usize, bytes: &mut [u8], n: usize) -> usize {
     end
 }
 
-fn low_byte(n: u32) -> u8 {
+pub fn low_byte(n: u32) -> u8 {
     (n % 256) as u8
 }
 
@@ -167,7 +168,7 @@ fn read_file(text: &[u8], at: usize) -> usize {
     end
 }
 
-// The case or file that starts at `at`; the answer is where it ends.
+// The case, file or shelf that starts at `at`; the answer is where it ends.
 fn step(text: &[u8], at: usize) -> usize {
     let t = tokens::next(text, at);
     if tokens::is(text, t, b"case") {
@@ -178,6 +179,9 @@ fn step(text: &[u8], at: usize) -> usize {
     }
     if tokens::is(text, t, b"file") {
         return read_file(text, t.end);
+    }
+    if tokens::is(text, t, b"shelf") {
+        return shelves::read_shelf(text, t.end);
     }
     t.end
 }

@@ -1,9 +1,11 @@
 // Judges images that stand on standard input in the format of oracle/FORMAT.md, each by itself: refusals 3 to 5, 8 to 11 and 17, and the
-// link rows of what draws none. Where a case says something else, that is said too. Then images at the limits of rule 4 and past them.
+// link rows of what draws none. Where a case says something else, that is said too. Shelves among them are judged by rule 2. Then come
+// images at the limits of rule 4 and past them.
 mod answers;
 mod crowds;
 mod files;
 mod say;
+mod shelves;
 mod tokens;
 
 fn main() {

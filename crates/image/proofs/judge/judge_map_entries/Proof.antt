@@ -1,6 +1,6 @@
 -- `image::judge::judge_map_entries` meets its contract: no message before the present one breaks a rule. Assumes nothing.
 use borrow.Author.Needs.{needs}
-use Prim.Native.Nat.{ℕ, _-_, _≤_, _<_}
+use Prim.Native.Nat.{ℕ, _-_, _≤_}
 use native.Mathlib.Omega.{arith}
 use mathlib.Core.Path.{_≡_, sym, ap, _∙_}
 use mathlib.Core.List.{List}
@@ -9,7 +9,7 @@ use Rattle.image.specs.Links.{messageRow}
 use Rattle.image.specs.MapEntry.{entryLines}
 use Rattle.image.specs.Verdict.{Line, first, inOrder}
 use Rattle.image.specs.Judge.{mapEntryLines}
-use Rattle.image.specs.declared.verdict.Verdict.the-variants.{Passed, Stopped}
+use Rattle.image.specs.declared.verdict.Verdict.the-variants.{Passed}
 use Rattle.image.proofs.SchemaLaws.{messages-in}
 use Rattle.image.proofs.VerdictLaws.{order-start, order-more, order-stop}
 use Rattle.image.proofs.judge.judge_map_entries.Statement.{statement}

@@ -14,7 +14,6 @@ use Rattle.image.specs.Limits.{textsShort}
 use Rattle.image.specs.Chained.{Chained, Named}
 use Rattle.image.specs.Verdict.{first}
 use Rattle.image.specs.Judge.{namingLines, judgedBy, linksBy}
-use Rattle.image.specs.declared.judge.Judged.{Judged}
 use Rattle.image.specs.declared.verdict.Verdict.{Verdict}
 use Rattle.image.specs.declared.verdict.Verdict.the-variants.{Passed}
 use Rattle.image.proofs.ChainLaws.{links-chained}

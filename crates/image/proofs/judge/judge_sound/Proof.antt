@@ -7,14 +7,10 @@ use lib.ListN.{length}
 use lib.Seq.{length-take-le}
 use Rattle.image.specs.Schema.{Schema, schemaIn}
 use Rattle.image.specs.Links.{linksOf, linkWords}
-use Rattle.image.specs.Laid.{Sound}
 use Rattle.image.proofs.IndexLaws.{links-length}
-use Rattle.image.proofs.JudgeLaws.{words-in, front-links}
+use Rattle.image.proofs.JudgeLaws.{words-in, links-few, front-links}
 use Rattle.image.proofs.judge.judge_sound.Statement.{statement}
 use Rattle.image.proofs.judge.judge_sound.Tie as tie
-
-few-words : (g : Schema) → Sound g → linkWords g ≤ 4096
-few-words g ok = omega (arith, ok .few-messages, ok .few-enums, ok .few-oneofs)
 
 abbrev said : tie.After-link-words → Schema
 said c = let a = c .before .before .before .before .before .before .before .before .before .args in schemaIn (a .image .now) (a .s) (a .pool .now)
@@ -28,7 +24,7 @@ counted c =
 room : (c : tie.After-link-words) → c .link-words .result ≤ length (c .before .before .before .number .last .1 .1 .1 .0)
 room c =
     let b = c .before .before .before .before .before .before .before .before .before in
-    omega (arith, counted c, few-words (said c) (b .pre .1 .0), b .pre .1 .1, c .before .before .before .number .kept .1 .1 .1 .0)
+    omega (arith, counted c, links-few (said c) (b .pre .1 .0), b .pre .1 .1, c .before .before .before .number .kept .1 .1 .1 .0)
 
 judge-numbered-requires : tie.Need-judge-numbered-requires
 judge-numbered-requires c κs =
@@ -42,7 +38,7 @@ judge-sound-spec =
     (tie.spec
     (λ c κs.
     let b = c .before .before .before .before .before in
-    (b .pre .1 .0, omega (arith, few-words (schemaIn (b .args .image .now) (b .args .s) (b .args .pool .now)) (b .pre .1 .0), b .pre .1 .1)))
+    (b .pre .1 .0, omega (arith, links-few (schemaIn (b .args .image .now) (b .args .s) (b .args .pool .now)) (b .pre .1 .0), b .pre .1 .1)))
     (λ c κs. search needs)
     (λ c. room c)
     (λ c. sym (length-take-le (c .before .link-words .result) (c .before .before .before .before .number .last .1 .1 .1 .0) (room (c .before))))

@@ -2,12 +2,12 @@
 use borrow.Author.Needs.{needs}
 use mathlib.Core.Path.{_≡_, sym, ap, _∙_}
 use mathlib.Core.List.{List}
-use Prim.Native.Nat.{ℕ, _+_, _*_, _≤_}
+use Prim.Native.Nat.{ℕ}
 use native.Mathlib.Omega.{arith}
 use Rattle.lists.specs.Splice.{splice}
 use Rattle.lists.proofs.SpliceLaws.{splice-nil}
 use Rattle.image.specs.Schema.{Schema, schemaIn}
-use Rattle.image.specs.Walk.{oneofRow, countedRow}
+use Rattle.image.specs.Walk.{oneofRow}
 use Rattle.image.specs.declared.rows.Range.{Range}
 use Rattle.image.proofs.SchemaLaws.{oneofs-in}
 use Rattle.image.proofs.LinkLaws.{run, run-none}

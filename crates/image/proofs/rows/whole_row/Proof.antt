@@ -1,5 +1,4 @@
 -- `image::rows::whole_row` meets its contract: its loop keeps `Reading`. Assumes nothing.
-use borrow.Author.Needs.{needs}
 use Prim.Native.Nat.{ℕ, _-_}
 use native.Mathlib.Omega.{arith}
 use mathlib.Core.Path.{refl}

@@ -1,26 +1,17 @@
 -- `image::texts::text_of` meets its contract. Assumes nothing.
 use borrow.Author.Needs.{needs}
-use Rattle.image.proofs.TextLaws.{text-none, text-rest, text-part}
+use mathlib.Core.Path.{ap, _∙_}
+use Rattle.lists.specs.Lists.{part}
+use Rattle.image.specs.Texts.{textOf}
+use Rattle.image.specs.declared.rows.Range.{Range}
 use Rattle.image.proofs.texts.text_of.Statement.{statement}
 use Rattle.image.proofs.texts.text_of.Tie as tie
 
 returns : tie.Need-returns
+unfolding textOf
 returns c =
-    let k = c .before .before .before .before in
-    let a = k .before .before .before .args in
-    text-none (a .image .now) (a .pool .now) (a .at) (rw (k .range-at .ensures) at (c .before .if1 .taken))
-
-returns-2 : tie.Need-returns-2
-returns-2 c =
-    let k = c .before .before .before .before .before in
-    let a = k .before .before .before .args in
-    rw (k .range-at .ensures) (text-rest (a .image .now) (a .pool .now) (a .at) (rw (k .range-at .ensures) at (c .before .if2 .taken)))
-
-returns-3 : tie.Need-returns-3
-returns-3 c =
-    let k = c .before .before .before .before .before in
-    let a = k .before .before .before .args in
-    rw (k .range-at .ensures) (text-part (a .image .now) (a .pool .now) (a .at))
+    let k = c .before .before .before in
+    c .bytes-part .ensures ∙ ap (λ (x : Range). part (x .first) (x .count) (k .before .before .before .args .pool .now)) (k .range-at .ensures)
 
 pub text-of-spec : {M : Type 1} → statement M
 text-of-spec =
@@ -29,15 +20,5 @@ text-of-spec =
     (λ c κs. search needs)
     (λ c. search needs)
     (λ c. search needs)
-    (λ c. search needs)
-    returns
-    (λ c. search needs)
-    (λ c. search needs)
-    (λ c. search needs)
-    (λ c. search needs)
-    returns-2
-    (λ c. search needs)
-    (λ c. search needs)
-    (λ c. search needs)
-    (λ c. search needs)
-    returns-3)
+    (λ c κs. search needs)
+    returns)

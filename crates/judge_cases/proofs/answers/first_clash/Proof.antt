@@ -1,8 +1,5 @@
 -- `judge_cases::answers::first_clash` ends and is safe. Assumes nothing.
-use Prim.Native.Nat.{ℕ, _+_, _-_, _*_, _≤_, _<_}
-use native.Mathlib.Omega.{arith}
-use mathlib.Core.Path.{_≡_, refl}
-use lib.ListN.{length}
+use Prim.Native.Nat.{_-_}
 use borrow.Author.Needs.{needs}
 use Rattle.judge_cases.proofs.answers.first_clash.Statement.{statement}
 use Rattle.judge_cases.proofs.answers.first_clash.Tie as tie

@@ -1,8 +1,5 @@
 -- `judge_cases::files::say_links` ends and is safe. Assumes nothing.
-use Prim.Native.Nat.{ℕ, _+_, _-_, _*_, _≤_, _<_}
-use native.Mathlib.Omega.{arith}
-use mathlib.Core.Path.{_≡_, refl}
-use lib.ListN.{length}
+use Prim.Native.Nat.{_-_}
 use borrow.Author.Needs.{needs}
 use Rattle.judge_cases.proofs.files.say_links.Statement.{statement}
 use Rattle.judge_cases.proofs.files.say_links.Tie as tie

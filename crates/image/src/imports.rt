@@ -1,0 +1,22 @@
+// The name of a file, and the names of the files that it imports.
+use crate::rows;
+use crate::rows::Kind;
+use crate::rows::Row;
+use crate::rows::Sections;
+use crate::texts;
+ghost use mathlib.Core.Path.{_≡_};
+ghost use Rattle.image.specs.Schema.{schemaIn};
+
+// The file's own name.
+pub fn file_name<'a>(image: &[u32], s: Sections, pool: &'a [u8]) -> &'a [u8]
+    ensures { λ r. ⌜ now r ≡ schemaIn (now (image .entry)) s (now (pool .entry)) .fileName ⌝ }
+{
+    texts::text_of(image, pool, rows::trailer_at(image) + 1)
+}
+
+// The name of the file that an import row imports.
+pub fn import_name<'a>(image: &[u32], s: Sections, pool: &'a [u8], row: Row) -> &'a [u8]
+    ensures { λ r. ⌜ now r ≡ schemaIn (now (image .entry)) s (now (pool .entry)) .importName (row .0) ⌝ }
+{
+    texts::text_of(image, pool, rows::row_at(s, Kind::Import, row))
+}
