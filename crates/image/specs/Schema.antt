@@ -9,7 +9,8 @@ use Rattle.image.specs.declared.rows.Range.{Range}
 use Rattle.image.specs.declared.rows.Sections.{Sections}
 use Rattle.image.specs.declared.rows.Kind.the-variants.{Import, Message, Enum, Value, Field}
 
--- a field row. Texts are lists of bytes; `oneof` is an index + 1, or 0; `given` and `optional` are 0 or 1
+-- a field row. Texts are lists of bytes; `oneof` is an index + 1, or 0; `given` and `optional` are 0 or 1; `defaultStart` is where the default
+-- text starts in the pool
 pub record FieldSays : Type 0 where
   pub name : List ℕ
   pub number : ℕ
@@ -20,6 +21,7 @@ pub record FieldSays : Type 0 where
   pub jsonName : List ℕ
   pub given : ℕ
   pub default : List ℕ
+  pub defaultStart : ℕ
   pub oneof : ℕ
   pub optional : ℕ
 
@@ -78,6 +80,7 @@ fieldOf row pool =
       jsonName = textOf row pool (jsonNameAt 0);
       given = wordAt row (givenAt 0);
       default = textOf row pool (defaultAt 0);
+      defaultStart = wordAt row (defaultAt 0);
       oneof = wordAt row (oneofAt 0);
       optional = wordAt row (optionalAt 0);
     }

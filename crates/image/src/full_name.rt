@@ -220,7 +220,7 @@ pub fn find_enum(image: &[u32], s: Sections, pool: &[u8], links: &[u32], wanted:
 }
 
 // The package, as a part of the pool.
-fn package_name<'a>(image: &[u32], s: Sections, pool: &'a [u8]) -> &'a [u8]
+pub fn package_name<'a>(image: &[u32], s: Sections, pool: &'a [u8]) -> &'a [u8]
     ensures { λ r. ⌜ now r ≡ schemaIn (now (image .entry)) s (now (pool .entry)) .«package» ⌝ }
 {
     texts::text_of(image, pool, rows::trailer_at(image) + 3)

@@ -20,3 +20,10 @@ pub fn import_name<'a>(image: &[u32], s: Sections, pool: &'a [u8], row: Row) -> 
 {
     texts::text_of(image, pool, rows::row_at(s, Kind::Import, row))
 }
+
+// Whether an import row is public: its word 2, 0 or 1 in an image that is laid out.
+pub fn import_public(image: &[u32], s: Sections, pool: &[u8], row: Row) -> u32
+    ensures { λ r. ⌜ r ≡ schemaIn (now (image .entry)) s (now (pool .entry)) .importPublic (row .0) ⌝ }
+{
+    rows::word_at(image, rows::row_at(s, Kind::Import, row) + 2)
+}
