@@ -1,0 +1,10 @@
+pub mod Sight
+pub mod Search
+pub mod Resolve
+pub mod Field
+pub mod Chain
+pub mod Edges
+pub mod Marks
+pub mod Rows
+pub mod Refusals
+pub mod Link

@@ -1,0 +1,8 @@
+// The linker. Below stand `image`, what images and shelves say, and `names`, the rules of texts; what is cited of them is what they promise.
+mod building;
+mod fds;
+mod field_index;
+mod find_message_or_enum;
+mod is_initialized_is_always_true;
+mod judge;
+pub mod link;
