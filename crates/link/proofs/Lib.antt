@@ -12,6 +12,9 @@ pub mod ChainLaws
 pub mod TurnLaws
 pub mod RoundLaws
 pub mod ChainTheorems
+pub mod EdgeLaws
+pub mod CauseLaws
+pub mod GraphLaws
 pub mod FirstLaws
 pub mod TableLaws
 pub mod Demands

@@ -18,7 +18,7 @@ use Rattle.image.proofs.VerdictLaws.{andThen, first-append}
 use Rattle.link.specs.Sight.{Sight, inSight, sightOf, InReach}
 use Rattle.link.specs.Search.{Below}
 use Rattle.link.specs.Resolve.{target, typeTarget, targetFile, targetIndex, isMissing, isMessageType}
-use Rattle.link.specs.Field.{extendeeLines, extendeePart, elementLines, fieldIn, entryIn, ownTarget, missingRefusal, mapLines, mapPart, isMap, keyOf, valueField, typeLines, typePart}
+use Rattle.link.specs.Field.{extendeeLines, extendeePart, elementLines, fieldIn, entryIn, fieldTarget, missingRefusal, mapLines, mapPart, isMap, mapKey, mapValue, typeLines, typePart}
 use Rattle.link.specs.declared.building.Wanted.the-variants.{Message}
 use Rattle.link.specs.declared.building.Target.{Target}
 use Rattle.link.specs.declared.building.Target.the-variants as aim
@@ -66,7 +66,7 @@ module _ (s : Sight) (list : List ℕ) (f : FieldSays) (ofFile : Bool) (at : ℕ
 -- ---- the type of a field, or of a map's key or value
 
 abbrev pub IsElement : Sight → List ℕ → FieldSays → ℕ → PairLinked → Type 0
-IsElement s list f at r = (r .verdict ≡ first (elementLines s list f at)) × (r .verdict ≡ Passed → (r .file ≡ targetFile (ownTarget s list f)) × (r .index ≡ targetIndex (ownTarget s list f)))
+IsElement s list f at r = (r .verdict ≡ first (elementLines s list f at)) × (r .verdict ≡ Passed → (r .file ≡ targetFile (fieldTarget s list f)) × (r .index ≡ targetIndex (fieldTarget s list f)))
 
 module _ (s : Sight) (list : List ℕ) (f : FieldSays) (at : ℕ) where
   at-is : (word m : ℕ) → typeTarget s list (f .«type») (f .typeName) ≡ aim.At word m → IsElement s list f at (record { verdict = Passed; file = word; index = m })
@@ -164,15 +164,15 @@ module _ (s : Sight) (list : List ℕ) (t word index at : ℕ) where
     repeated-map n h = (h .0 ∙ rw (i, n), λ p. h .1 p ∙ rw (i, n))
 
 module _ (s : Sight) (list : List ℕ) (f : FieldSays) (at : ℕ) {own : PairLinked} (a : IsElement s list f at own) where
-  type-both : first (typeLines s list f at) ≡ andThen (first (elementLines s list f at)) (first (cond (isMap s list f) (mapLines s list (keyOf s list f) (valueField s list f) at) []))
+  type-both : first (typeLines s list f at) ≡ andThen (first (elementLines s list f at)) (first (cond (isMap s list f) (mapLines s list (mapKey s list f) (mapValue s list f) at) []))
   unfolding typeLines
-  type-both = first-append (elementLines s list f at) (cond (isMap s list f) (mapLines s list (keyOf s list f) (valueField s list f) at) [])
+  type-both = first-append (elementLines s list f at) (cond (isMap s list f) (mapLines s list (mapKey s list f) (mapValue s list f) at) [])
 
   pub type-stopped : {r : TypeLinked} (why : Refusal) (p : ℕ) → own .verdict ≡ Stopped why p → r .verdict ≡ Stopped why p → IsTyped s list f at r
   type-stopped why p e h = (h ∙ sym (type-both ∙ rw (sym (a .0) ∙ e)), λ q. not-passed (sym h ∙ q))
 
   module _ (e : own .verdict ≡ Passed) {t : ℕ} (k : t ≡ f .«type») where
-    type-rest : first (typeLines s list f at) ≡ first (cond (isMap s list f) (mapLines s list (keyOf s list f) (valueField s list f) at) [])
+    type-rest : first (typeLines s list f at) ≡ first (cond (isMap s list f) (mapLines s list (mapKey s list f) (mapValue s list f) at) [])
     type-rest = type-both ∙ rw (sym (a .0) ∙ e)
 
     singular-words : eqb (f .label) 3 ≡ false → 0 ∷ t ∷ own .file ∷ own .index ∷ 0 ∷ 0 ∷ 0 ∷ [] ≡ typePart s list f
@@ -186,7 +186,7 @@ module _ (s : Sight) (list : List ℕ) (f : FieldSays) (at : ℕ) {own : PairLin
     pub type-singular : {r : TypeLinked} → eqb (f .label) 3 ≡ false → r ≡ record { verdict = Passed; words = 0 ∷ t ∷ own .file ∷ own .index ∷ 0 ∷ 0 ∷ 0 ∷ [] } → IsTyped s list f at r
     type-singular l h = subst (IsTyped s list f at) (sym h) (singular-lines l, λ _. singular-words l)
 
-    repeated-is : {r : TypeLinked} → eqb (f .label) 3 ≡ true → IsRepeated s list (f .«type») (targetFile (ownTarget s list f)) (targetIndex (ownTarget s list f)) at r → IsTyped s list f at r
+    repeated-is : {r : TypeLinked} → eqb (f .label) 3 ≡ true → IsRepeated s list (f .«type») (targetFile (fieldTarget s list f)) (targetIndex (fieldTarget s list f)) at r → IsTyped s list f at r
     unfolding isMap typePart
     repeated-is l h = (h .0 ∙ sym (type-rest ∙ rw l), λ q. rw l (h .1 q))
 
@@ -199,11 +199,11 @@ module _ (words bytes : List ℕ) (p : Places) (n : ℕ) (image pool links list 
   abbrev inView : Sight
   inView = sightOf words bytes p n image pool links
 
-  target-in-reach : isMessageType (f .«type») ≡ true → (t : Target) → ownTarget inView list f ≡ t → isMissing t ≡ false → InReach n (targetFile t)
+  target-in-reach : isMessageType (f .«type») ≡ true → (t : Target) → fieldTarget inView list f ≡ t → isMissing t ≡ false → InReach n (targetFile t)
   target-in-reach i (aim.At word m) e h = type-reach words bytes p n image pool links list (f .typeName) b (f .«type») i e
   target-in-reach i aim.Missing e h = clash true refl h
 
   pub own-in-reach : (at : ℕ) {own : PairLinked} {t : ℕ} → IsElement inView list f at own → own .verdict ≡ Passed → t ≡ f .«type» → isMessageType t ≡ true → InReach n (own .file)
   own-in-reach at a e k i =
       let j : isMessageType (f .«type») ≡ true = rw k at i in
-      subst (λ (x : ℕ). InReach n x) (sym (a .1 e .0)) (target-in-reach j (ownTarget inView list f) refl (element-passed inView list f at (sym (a .0) ∙ e) j))
+      subst (λ (x : ℕ). InReach n x) (sym (a .1 e .0)) (target-in-reach j (fieldTarget inView list f) refl (element-passed inView list f at (sym (a .0) ∙ e) j))

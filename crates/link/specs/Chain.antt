@@ -4,6 +4,7 @@ use mathlib.Core.Path.{_≡_}
 use mathlib.Core.Bool.{Bool, true, _&&_}
 use Prim.Native.Nat.{ℕ, zero, suc, _<_, _≤_}
 use Rattle.lists.specs.Below.{anyBelow, firstBelow}
+use Rattle.image.specs.LinkTests.{noDistance}
 
 -- the messages of a file: n of them, which have a cause of their own, and which refers to which
 pub record Graph : Type 0 where
@@ -29,14 +30,15 @@ pub record Distance (g : Graph) (i k : ℕ) : Type 0 where
 
 -- the word of a message that has no chain: it is always initialised
 abbrev pub noChain : ℕ
-noChain = 4294967295
+noChain = noDistance
 
 -- there is a chain of exactly k
 unfoldable pub reach : Graph → ℕ → ℕ → Bool
 reach g zero i = g .cause i
 reach g (suc k) i = anyBelow (g .n) (λ j. g .refers i j && reach g k j)
 
--- the least length of a chain from i, of those below the number of messages, or none
+-- the least length of a chain from i, of those below the number of messages, or none. A shortest chain meets no message twice, so no length from
+-- that number on needs to be tried: proofs/ChainTheorems has that this is the distance where i is marked, and none where it is not
 unfoldable pub distance : Graph → ℕ → ℕ
 unfolding firstBelow reach
 distance g i = firstBelow (g .n) (λ k. reach g k i) noChain

@@ -82,10 +82,11 @@ valueIn file e text = firstValue (says file) (enumRow (says file) (file .links) 
 abbrev pub valueOf : Sight → Target → List ℕ → Found
 valueOf s t text = valueIn (fileBy (inSight s) (targetFile t)) (targetIndex t) text
 
--- the default of an enum: the enum is found (16), and has a value of that name (12)
+-- the place in its enum of the value that a field's default names
 abbrev pub namedDefault : Sight → List ℕ → FieldSays → Found
 namedDefault s list f = valueOf s (target Enum s list (f .typeName)) (f .default)
 
+-- 12 and 13; of an enum 16 where it is not found, and 12 where it has no value of that name
 unfoldable pub defaultLines : Sight → List ℕ → FieldSays → ℕ → List Line
 unfolding firstValue
 defaultLines s list f at =
@@ -158,21 +159,22 @@ entryIn file m = isMapEntry (says file) (messageRow (file .links) m)
 abbrev pub isEntry : Sight → Target → Bool
 isEntry s t = entryIn (fileBy (inSight s) (targetFile t)) (targetIndex t)
 
--- a repeated field whose message is a map entry is a map; its key's and value's types are resolved from the file that is linked
-abbrev pub ownTarget : Sight → List ℕ → FieldSays → Target
-ownTarget s list f = typeTarget s list (f .«type») (f .typeName)
+-- what a field's own type leads to
+abbrev pub fieldTarget : Sight → List ℕ → FieldSays → Target
+fieldTarget s list f = typeTarget s list (f .«type») (f .typeName)
 
 abbrev pub isRepeated : FieldSays → Bool
 isRepeated f = eqb (f .label) 3
 
+-- a repeated field whose message is a map entry is a map; its key's and value's types are resolved from the file that is linked
 unfoldable pub isMap : Sight → List ℕ → FieldSays → Bool
-isMap s list f = isRepeated f && (isMessageType (f .«type») && isEntry s (ownTarget s list f))
+isMap s list f = isRepeated f && (isMessageType (f .«type») && isEntry s (fieldTarget s list f))
 
-abbrev pub keyOf : Sight → List ℕ → FieldSays → FieldSays
-keyOf s list f = entryField s (ownTarget s list f) 0
+abbrev pub mapKey : Sight → List ℕ → FieldSays → FieldSays
+mapKey s list f = entryField s (fieldTarget s list f) 0
 
-abbrev pub valueField : Sight → List ℕ → FieldSays → FieldSays
-valueField s list f = entryField s (ownTarget s list f) 1
+abbrev pub mapValue : Sight → List ℕ → FieldSays → FieldSays
+mapValue s list f = entryField s (fieldTarget s list f) 1
 
 -- both types of a map with that key and value
 unfoldable pub mapLines : Sight → List ℕ → FieldSays → FieldSays → ℕ → List Line
@@ -185,15 +187,15 @@ mapPart s list key value = 2 ∷ (elementPart s list key ++ elementPart s list v
 unfoldable pub typeLines : Sight → List ℕ → FieldSays → ℕ → List Line
 unfolding elementLines isMap mapLines
 typeLines s list f at =
-    elementLines s list f at ++ cond (isMap s list f) (mapLines s list (keyOf s list f) (valueField s list f) at) []
+    elementLines s list f at ++ cond (isMap s list f) (mapLines s list (mapKey s list f) (mapValue s list f) at) []
 
--- shape (0 singular, 1 repeated, 2 map); type, file, index; the same three for a map's value
+-- shape (0 singular, 1 repeated, 2 map); type, file, index; the same three for a map's value, else 0
 unfoldable pub typePart : Sight → List ℕ → FieldSays → List ℕ
 unfolding isMap mapPart
 typePart s list f =
     cond
     (isMap s list f)
-    (mapPart s list (keyOf s list f) (valueField s list f))
+    (mapPart s list (mapKey s list f) (mapValue s list f))
     (cond (isRepeated f) 1 0 ∷ (elementPart s list f ++ (0 ∷ 0 ∷ 0 ∷ [])))
 
 -- ---- the field

@@ -3,8 +3,8 @@ pub mod Search
 pub mod Resolve
 pub mod Field
 pub mod Chain
-pub mod Edges
 pub mod Marks
+pub mod Edges
 pub mod Rows
 pub mod Refusals
 pub mod Link

@@ -2,13 +2,28 @@
 use mathlib.Core.List.{List}
 use Rattle.lists.specs.Splice.{splice}
 use Rattle.image.specs.Shelf.{usedWith}
-use Rattle.image.specs.Verdict.{first}
+use Rattle.image.specs.Verdict.{number, first}
+use Rattle.image.specs.declared.shelf.Used.{Used}
 use Rattle.image.specs.declared.verdict.Verdict.{Verdict}
 use Rattle.image.specs.declared.verdict.Verdict.the-variants.{Passed, Stopped}
 use Prim.Native.Nat.{ℕ}
 use Rattle.link.specs.Refusals.{Call, newFile, newRecord, table}
 use Rattle.link.specs.declared.link.Linked.{Linked}
 use Rattle.link.specs.declared.link.Linked.the-variants.{Accepted, Refused}
+
+-- the number of each answer: 0 where the file is accepted, else that of the refusal; its place; and the three numbers of the shelf then,
+-- which a refusal leaves
+abbrev pub answerNumber : Linked → ℕ
+answerNumber (Accepted used) = 0
+answerNumber (Refused r p) = number r
+
+abbrev pub answerPlace : Linked → ℕ
+answerPlace (Accepted used) = 0
+answerPlace (Refused r p) = p
+
+abbrev pub answerUsed : Used → Linked → Used
+answerUsed was (Accepted used) = used
+answerUsed was (Refused r p) = was
 
 pub record Outcome : Type 0 where
   pub answer : Linked

@@ -10,9 +10,9 @@ use Rattle.image.specs.Words.{wordAt}
 use Rattle.image.specs.Schema.{Schema}
 use Rattle.image.specs.Flat.{rowOf, firstField}
 use Rattle.image.specs.Members.{regular}
-use Rattle.image.specs.Record.{File, says, fieldLinkWidth, linkRow, messageLinkAt, FieldLink, fieldLinkOf}
+use Rattle.image.specs.Record.{File, fieldLinkWidth, linkRow, messageLinkAt, FieldLink, fieldLinkOf}
 use Rattle.image.specs.LinkTests.{fileBy, markAt}
-use Rattle.link.specs.Sight.{Sight}
+use Rattle.link.specs.Sight.{Sight, ownSays}
 use Rattle.link.specs.Resolve.{isMessageType}
 use Rattle.link.specs.Chain.{Graph}
 
@@ -22,7 +22,8 @@ regularLink g rows m k = fieldLinkOf (linkRow rows ((firstField g m + k) * field
 
 -- a message that a row refers to, by its type or by the type of a map's value, has p; p takes file word and index
 abbrev pub refersTo : FieldLink → (ℕ → ℕ → Bool) → Bool
-refersTo l p = isMessageType (l .«type») && p (l .typeFile) (l .typeIndex) || eqb (l .shape) 2 && (isMessageType (l .valueType) && p (l .valueFile) (l .valueIndex))
+refersTo l p =
+    (isMessageType (l .«type») && p (l .typeFile) (l .typeIndex)) || (eqb (l .shape) 2 && (isMessageType (l .valueType) && p (l .valueFile) (l .valueIndex)))
 
 -- some regular field of flat message m refers to such a message
 unfoldable pub messageRefers : Schema → List ℕ → ℕ → (ℕ → ℕ → Bool) → Bool
@@ -43,7 +44,7 @@ ownCause g r =
 unfoldable pub graphOf : Sight → List ℕ → Graph
 graphOf s rows =
     record {
-      n = says (s .own) .messages;
-      cause = λ m. ownCause (says (s .own)) (rowOf (says (s .own)) m) || messageRefers (says (s .own)) rows m (isMarked (s .files));
-      refers = λ i j. messageRefers (says (s .own)) rows i (λ word index. eqb word (length (s .files) + 1) && eqb index j);
+      n = ownSays s .messages;
+      cause = λ m. ownCause (ownSays s) (rowOf (ownSays s) m) || messageRefers (ownSays s) rows m (isMarked (s .files));
+      refers = λ i j. messageRefers (ownSays s) rows i (λ word index. eqb word (length (s .files) + 1) && eqb index j);
     }

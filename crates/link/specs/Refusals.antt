@@ -10,13 +10,14 @@ use Rattle.image.specs.Schema.{Schema, schemaOf}
 use Rattle.image.specs.Flat.{rowOf, firstField}
 use Rattle.image.specs.Links.{linksOf}
 use Rattle.image.specs.Clash.{firstClash}
-use Rattle.image.specs.Record.{File, says, recordWords}
+use Rattle.image.specs.Record.{File, recordWords}
 use Rattle.image.specs.Shelf.{isNothing, fileNamed, filesOf, fileLimit, usedPart, wellFormed}
 use Rattle.image.specs.Verdict.{Line, line, inOrder}
 use Rattle.image.specs.Judge.{openingLines, namingLines}
+use Rattle.image.specs.declared.rows.Range.{Range}
 use Rattle.image.specs.declared.shelf.Used.{Used}
 use Rattle.image.specs.declared.verdict.Refusal.the-variants.{TooLong, ShelfBroken, NameTaken, ImportMissing, FieldClash, NoRoom}
-use Rattle.link.specs.Sight.{Sight}
+use Rattle.link.specs.Sight.{Sight, ownSays}
 use Rattle.link.specs.Search.{placeOr, searched}
 use Rattle.link.specs.Field.{fieldLines}
 use Rattle.link.specs.Rows.{allLinks}
@@ -75,30 +76,34 @@ nameLines files g = line NameTaken (not (isNothing (fileNamed files (g .fileName
 unfoldable pub importLines : List File → Schema → List Line
 importLines files g = inOrder (g .imports) (λ i. line ImportMissing (isNothing (fileNamed files (g .importName i))) i ∷ [])
 
--- ---- 12 to 17: fields, in flat order
+-- ---- 12 to 17: message by message in flat order, then the file's extensions
 
--- n fields from image row r on, whose flat numbers start at `at`
+-- the fields of a range, whose flat numbers start at `at`
 abbrev pub fieldsLines : Sight → List ℕ → Bool → ℕ → ℕ → ℕ → List Line
-fieldsLines s list ofFile r n at = inOrder n (λ j. fieldLines s list (says (s .own) .field (r + j)) ofFile (at + j))
+fieldsLines s list ofFile r n at = inOrder n (λ j. fieldLines s list (ownSays s .field (r + j)) ofFile (at + j))
+
+abbrev pub rangeLines : Sight → List ℕ → Bool → Range → ℕ → List Line
+rangeLines s list ofFile g at = fieldsLines s list ofFile (g .first) (g .count) at
 
 -- 17 for the message on row r, whose first field has the flat number `at`: the place is the later field
 unfoldable pub clashAt : Schema → ℕ → ℕ → List Line
 clashAt g r at = line FieldClash (not (isNothing (firstClash g r))) (at + placeOr 0 (firstClash g r)) ∷ []
 
--- of flat message m: its regular fields, 17, its extensions
+-- the message on row r, whose first field has the flat number `at`: its regular fields, 17, its extensions
+abbrev pub rowLines : Sight → List ℕ → ℕ → ℕ → List Line
+rowLines s list r at =
+    rangeLines s list false (ownSays s .fieldsIn r) at
+    ++ (clashAt (ownSays s) r at ++ rangeLines s list false (ownSays s .extensionsIn r) (at + ownSays s .fieldsIn r .count))
+
 unfoldable pub messageLines : Sight → List ℕ → ℕ → List Line
 unfolding inOrder clashAt
-messageLines s list m =
-    fieldsLines s list false (says (s .own) .fieldsIn (rowOf (says (s .own)) m) .first) (says (s .own) .fieldsIn (rowOf (says (s .own)) m) .count) (firstField (says (s .own)) m)
-    ++ (clashAt (says (s .own)) (rowOf (says (s .own)) m) (firstField (says (s .own)) m)
-    ++ fieldsLines s list false (says (s .own) .extensionsIn (rowOf (says (s .own)) m) .first) (says (s .own) .extensionsIn (rowOf (says (s .own)) m) .count) (firstField (says (s .own)) m + says (s .own) .fieldsIn (rowOf (says (s .own)) m) .count))
+messageLines s list m = rowLines s list (rowOf (ownSays s) m) (firstField (ownSays s) m)
 
 -- message by message; the file's extensions last
 unfoldable pub allFieldLines : Sight → List ℕ → List Line
 unfolding inOrder messageLines
 allFieldLines s list =
-    inOrder (says (s .own) .messages) (messageLines s list)
-    ++ fieldsLines s list true (says (s .own) .fileExtensions .first) (says (s .own) .fileExtensions .count) (firstField (says (s .own)) (says (s .own) .messages))
+    inOrder (ownSays s .messages) (messageLines s list) ++ rangeLines s list true (ownSays s .fileExtensions) (firstField (ownSays s) (ownSays s .messages))
 
 -- ---- 18: room
 

@@ -91,7 +91,7 @@ listed l = record { files = l ++ replicate (32 - length l) 0; count = length l }
 abbrev pub listOf : SearchList → List ℕ
 listOf l = take (l .count) (l .files)
 
--- what rule 2, and 7 for the file that is linked, give: few files and imports, and imports that name earlier files
+-- what rule 2, and 4 and 7 for the file that is linked, give: few files and imports, and imports that name earlier files
 pub record Searchable (files : List File) (g : Schema) : Type 0 where
   pub few : length files ≤ 32
   pub few-imports : (f : ℕ) → f < length files → says (getD files f noFile) .imports ≤ 32

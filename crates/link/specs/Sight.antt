@@ -1,7 +1,8 @@
 -- What a file sees that is being linked: the shelved files, and itself. Assumes nothing.
 use mathlib.Core.List.{List, [], _∷_, _++_}
 use Prim.Native.Nat.{ℕ, _+_, _<_, _≤_}
-use Rattle.image.specs.Record.{File}
+use Rattle.image.specs.Schema.{Schema}
+use Rattle.image.specs.Record.{File, says}
 use Rattle.image.specs.Places.{filesIn}
 use Rattle.image.specs.declared.shelf.Places.{Places}
 
@@ -9,6 +10,10 @@ use Rattle.image.specs.declared.shelf.Places.{Places}
 pub record Sight : Type 0 where
   pub files : List File
   pub own : File
+
+-- what the image says that is linked
+abbrev pub ownSays : Sight → Schema
+ownSays s = says (s .own)
 
 -- all of them: the file that is linked has the next shelf number
 abbrev pub inSight : Sight → List File

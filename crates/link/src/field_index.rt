@@ -31,7 +31,7 @@ ghost use Rattle.link.specs.Sight.{sightOf, inSight, InReach};
 ghost use Rattle.image.specs.LinkTests.{fileBy};
 ghost use Rattle.link.specs.Search.{listOf, Below};
 ghost use Rattle.link.specs.Resolve.{isMessageType, targetFile, targetIndex};
-ghost use Rattle.link.specs.Field.{defaultRead, firstValue, valueIn, valueDefault, enumDefault, defaultLines, defaultPart, extendeeLines, extendeePart, elementLines, entryIn, fieldIn, ownTarget, mapLines, mapPart, missingRefusal, typeLines, typePart};
+ghost use Rattle.link.specs.Field.{defaultRead, firstValue, valueIn, valueDefault, enumDefault, defaultLines, defaultPart, extendeeLines, extendeePart, elementLines, entryIn, fieldIn, fieldTarget, mapLines, mapPart, missingRefusal, typeLines, typePart};
 
 // A default: no refusal, and its kind with two words; or a refusal.
 pub struct DefaultLinked {
@@ -365,7 +365,7 @@ fn index_element(
     requires { ⌜ n ≤ 32 ⌝ }
     requires { ⌜ list .count ≤ 32 ⌝ }
     ensures { λ r. ⌜ r .verdict ≡ first (elementLines (sightOf (now (words .entry)) (now (bytes .entry)) p n (now (image .entry)) (now (pool .entry)) (now (links .entry))) (listOf list) (fieldOf (now (row .entry)) (now (texts .entry))) at) ⌝ }
-    ensures { λ r. ⌜ (r .verdict ≡ Passed → (r .file ≡ targetFile (ownTarget (sightOf (now (words .entry)) (now (bytes .entry)) p n (now (image .entry)) (now (pool .entry)) (now (links .entry))) (listOf list) (fieldOf (now (row .entry)) (now (texts .entry))))) × (r .index ≡ targetIndex (ownTarget (sightOf (now (words .entry)) (now (bytes .entry)) p n (now (image .entry)) (now (pool .entry)) (now (links .entry))) (listOf list) (fieldOf (now (row .entry)) (now (texts .entry)))))) ⌝ }
+    ensures { λ r. ⌜ (r .verdict ≡ Passed → (r .file ≡ targetFile (fieldTarget (sightOf (now (words .entry)) (now (bytes .entry)) p n (now (image .entry)) (now (pool .entry)) (now (links .entry))) (listOf list) (fieldOf (now (row .entry)) (now (texts .entry))))) × (r .index ≡ targetIndex (fieldTarget (sightOf (now (words .entry)) (now (bytes .entry)) p n (now (image .entry)) (now (pool .entry)) (now (links .entry))) (listOf list) (fieldOf (now (row .entry)) (now (texts .entry)))))) ⌝ }
 {
     let t = rows::word_at(row, 4);
     let name = image_texts::text_of(row, texts, 5);
