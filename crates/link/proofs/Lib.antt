@@ -8,6 +8,7 @@ pub mod TargetLaws
 pub mod FieldLaws
 pub mod DefaultLaws
 pub mod LinkedLaws
+pub mod FileIndexLaws
 pub mod ChainLaws
 pub mod TurnLaws
 pub mod RoundLaws

@@ -31,7 +31,7 @@ ghost use Rattle.link.specs.Sight.{sightOf, inSight, InReach};
 ghost use Rattle.image.specs.LinkTests.{fileBy};
 ghost use Rattle.link.specs.Search.{listOf, Below};
 ghost use Rattle.link.specs.Resolve.{isMessageType, targetFile, targetIndex};
-ghost use Rattle.link.specs.Field.{defaultRead, firstValue, valueIn, valueDefault, enumDefault, defaultLines, defaultPart, extendeeLines, extendeePart, elementLines, entryIn, fieldIn, fieldTarget, mapLines, mapPart, missingRefusal, typeLines, typePart};
+ghost use Rattle.link.specs.Field.{defaultRead, firstValue, valueIn, valueDefault, enumDefault, defaultLines, defaultPart, extendeeLines, extendeePart, elementLines, entryIn, fieldIn, fieldTarget, mapLines, mapPart, missingRefusal, typeLines, typePart, hasExtendee, fieldLines, fieldWords};
 
 // A default: no refusal, and its kind with two words; or a refusal.
 pub struct DefaultLinked {
@@ -655,4 +655,104 @@ fn index_type(
         own.index,
         at,
     )
+}
+
+// A field's link row: no refusal, and sixteen words; or a refusal.
+pub struct FieldLinked {
+    pub verdict: Verdict,
+    pub words: [u32; 16],
+}
+
+fn not_linked(r: Refusal, at: u32) -> FieldLinked
+    ensures { λ d. ⌜ d .verdict ≡ Stopped r at ⌝ }
+{
+    FieldLinked {
+        verdict: Verdict::Stopped(r, at),
+        words: [0u32; 16],
+    }
+}
+
+// The kind of a field: 1 with an extendee, 0 without.
+fn kind_of(row: &[u32], texts: &[u8]) -> u32
+    ensures { λ r. ⌜ r ≡ cond (hasExtendee (fieldOf (now (row .entry)) (now (texts .entry)))) 1 0 ⌝ }
+{
+    let name = image_texts::text_of(row, texts, 7);
+    if name.len() == 0 {
+        return 0;
+    }
+    1
+}
+
+// The link row of a field on image row `home`, in the message that the word `container` stands for: default, extendee, type, in that order.
+pub(crate) fn index_field(
+    words: &[u32],
+    bytes: &[u8],
+    p: Places,
+    n: u32,
+    image: &[u32],
+    pool: &[u8],
+    links: &[u32],
+    list: SearchList,
+    row: &[u32],
+    home: u32,
+    container: u32,
+    file: bool,
+    at: u32,
+) -> FieldLinked
+    requires { ⌜ Below n (listOf list) ⌝ }
+    requires { ⌜ n ≤ 32 ⌝ }
+    requires { ⌜ list .count ≤ 32 ⌝ }
+    ensures { λ r. ⌜ r .verdict ≡ first (fieldLines (sightOf (now (words .entry)) (now (bytes .entry)) p n (now (image .entry)) (now (pool .entry)) (now (links .entry))) (listOf list) (fieldOf (now (row .entry)) (now (pool .entry))) file at) ⌝ }
+    ensures { λ r. ⌜ (r .verdict ≡ Passed → r .words ≡ fieldWords (sightOf (now (words .entry)) (now (bytes .entry)) p n (now (image .entry)) (now (pool .entry)) (now (links .entry))) (listOf list) (fieldOf (now (row .entry)) (now (pool .entry))) home container) ⌝ }
+{
+    let d = index_default(words, bytes, p, n, image, pool, links, list, row, pool, at);
+    let dv = d.verdict;
+    if let Verdict::Stopped(r, place) = dv {
+        return not_linked(r, place);
+    }
+    let e = index_extendee(
+        words,
+        bytes,
+        p,
+        n,
+        image,
+        pool,
+        links,
+        list,
+        row,
+        pool,
+        file,
+        at,
+    );
+    let ev = e.verdict;
+    if let Verdict::Stopped(r, place) = ev {
+        return not_linked(r, place);
+    }
+    let t = index_type(words, bytes, p, n, image, pool, links, list, row, pool, at);
+    let tv = t.verdict;
+    if let Verdict::Stopped(r, place) = tv {
+        return not_linked(r, place);
+    }
+    let w = t.words;
+    FieldLinked {
+        verdict: Verdict::Passed,
+        words: [
+            home,
+            kind_of(row, pool),
+            container,
+            e.file,
+            e.index,
+            w[0],
+            w[1],
+            w[2],
+            w[3],
+            w[4],
+            w[5],
+            w[6],
+            d.kind,
+            d.low,
+            d.high,
+            0,
+        ],
+    }
 }

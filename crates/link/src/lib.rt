@@ -2,6 +2,7 @@
 mod building;
 mod fds;
 mod field_index;
+mod file_index;
 mod find_message_or_enum;
 mod is_initialized_is_always_true;
 mod judge;
