@@ -175,13 +175,13 @@ module _ (s : Sight) (list : List ℕ) (f : FieldSays) where
 -- ---- a range of n fields from image row `row` on, whose flat numbers start at `at`
 
 -- the link row of the field on image row r
-abbrev linkOf : Sight → List ℕ → ℕ → ℕ → List ℕ
+abbrev pub linkOf : Sight → List ℕ → ℕ → ℕ → List ℕ
 linkOf s list container r = fieldWords s list (says (s .own) .field r) r container
 
 abbrev pub linesOf : Sight → List ℕ → Bool → ℕ → ℕ → ℕ → List Line
 linesOf s list ofFile row at j = fieldLines s list (says (s .own) .field (row + j)) ofFile (at + j)
 
-links-wide : (s : Sight) (list : List ℕ) (container : ℕ) (r : ℕ) → length (linkOf s list container r) ≡ 16
+pub links-wide : (s : Sight) (list : List ℕ) (container : ℕ) (r : ℕ) → length (linkOf s list container r) ≡ 16
 links-wide s list container r = field-wide s list (says (s .own) .field r) r container
 
 -- the first j are linked without a refusal, and their rows written
@@ -358,7 +358,7 @@ module _ (s : Sight) (list : List ℕ) (ok : Sound (says (s .own))) where
       concat-wide (linkOf s list (m + 1)) 16 (links-wide s list (m + 1)) (fieldRows (says (s .own)) (rowOf (says (s .own)) m))
       ∙ ap (λ (n : ℕ). n * 16) (fields-length (says (s .own)) (rowOf (says (s .own)) m))
 
-  message-parts : Parts (messagePart s list) (partAt s) (says (s .own) .messages)
+  pub message-parts : Parts (messagePart s list) (partAt s) (says (s .own) .messages)
   message-parts m l = omega (arith, fields-next (says (s .own)) ok m l, part-length m)
 
   module _ (o₀ : List ℕ) where

@@ -21,3 +21,5 @@ pub mod TableLaws
 pub mod Demands
 pub mod ShelfFacts
 pub mod TargetFacts
+pub mod RecordLaws
+pub mod PhaseLaws

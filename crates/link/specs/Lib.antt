@@ -8,3 +8,4 @@ pub mod Edges
 pub mod Rows
 pub mod Refusals
 pub mod Link
+pub mod Phases
