@@ -18,16 +18,16 @@ ghost use Rattle.image.specs.Record.{fieldLinkWidth, linkRow, messageLin
 ghost use Rattle.image.specs.Walk.{linkAt, oneofRow, countedRow};
 
 // How many words the link row of a message, an enum, a oneof and a field has.
-pub(crate) const MESSAGE_LINK: usize = 10;
+pub const MESSAGE_LINK: usize = 10;
 
-pub(crate) const ENUM_LINK: usize = 2;
+pub const ENUM_LINK: usize = 2;
 
-pub(crate) const ONEOF_LINK: usize = 4;
+pub const ONEOF_LINK: usize = 4;
 
-pub(crate) const FIELD_LINK: usize = 16;
+pub const FIELD_LINK: usize = 16;
 
 // How many words the link rows of messages, enums and oneofs have.
-pub(crate) fn link_words(s: Sections) -> usize
+pub fn link_words(s: Sections) -> usize
     ensures { λ r. ⌜ r ≡ s .messages .count * messageLinkWidth + (s .enums .count * enumLinkWidth + s .oneofs .count * oneofLinkWidth) ⌝ }
 {
     s.messages.count as usize * MESSAGE_LINK
@@ -54,7 +54,7 @@ pub(crate) fn put_words(words: &mut [u32], at: usize, src: &[u32])
 }
 
 // Writes all of `src` into the front of `words`, or nothing where there is no room.
-pub(crate) fn put_front(words: &mut [u32], src: &[u32])
+pub fn put_front(words: &mut [u32], src: &[u32])
     ensures { λ _. ⌜ now (words .exit) ≡ fronted (now (words .entry)) (now (src .entry)) ⌝ }
 {
     if words.len() < src.len() {

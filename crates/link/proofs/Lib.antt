@@ -1,3 +1,4 @@
+pub mod PutLaws
 pub mod VisitLaws
 pub mod PushLaws
 pub mod RunLaws

@@ -2,6 +2,7 @@
 // rows are written into scratch words, row by row.
 use crate::fds::SearchList;
 use crate::field_index;
+use crate::put;
 use image::fields;
 use image::links as link_rows;
 use image::rows;
@@ -34,12 +35,7 @@ fn put_row(rows: &mut [u32], k: u32, row: [u32; 16])
     requires { ⌜ k * 16 + 16 ≤ length (now rows) ⌝ }
     ensures { λ _. ⌜ now (rows .exit) ≡ splice (now (rows .entry)) (k * 16) row ⌝ }
 {
-    let at = k as usize * 16;
-    let mut j = 0;
-    while j < 16 {
-        rows[at + j] = row[j];
-        j += 1;
-    }
+    put::put_words(rows, k as usize * link_rows::FIELD_LINK, &row);
 }
 
 // A range of fields whose flat numbers start at `at`.

@@ -110,7 +110,7 @@ fn is_marked(words: &[u32], bytes: &[u8], p: Places, n: u32, word: u32, index: u
         return false;
     }
     let links = shelf::file_links(words, bytes, p, word - 1);
-    rows::word_at(links, index as usize * 10 + 8) == 0
+    rows::word_at(links, index as usize * links::MESSAGE_LINK + 8) == 0
 }
 
 // Whether a type is such a message.
@@ -162,7 +162,7 @@ fn rows_refer_marked(
 {
     let mut k: u32 = 0;
     while k < count {
-        let row = rows::field_row_at(fields, (first as usize + k as usize) * 16);
+        let row = rows::field_row_at(fields, (first as usize + k as usize) * links::FIELD_LINK);
         if refers_marked(words, bytes, p, n, &row) {
             return true;
         }
@@ -320,7 +320,7 @@ fn push_rows(
     let mut to = m;
     let mut k: u32 = 0;
     while k < count {
-        let row = rows::field_row_at(fields, (first as usize + k as usize) * 16);
+        let row = rows::field_row_at(fields, (first as usize + k as usize) * links::FIELD_LINK);
         to = push_row(edges, to, home, n, own, &row);
         k += 1;
     }

@@ -7,3 +7,4 @@ mod find_message_or_enum;
 mod is_initialized_is_always_true;
 mod judge;
 pub mod link;
+mod put;

@@ -3,7 +3,9 @@ use crate::fds;
 use crate::file_index;
 use crate::is_initialized_is_always_true::compute_marks;
 use crate::judge;
+use crate::put;
 use image::judge as image_judge;
+use image::links as link_rows;
 use image::rows;
 use image::rows::Kind;
 use image::rows::Sections;
@@ -38,30 +40,6 @@ pub enum Linked {
     Refused(Refusal, u32),
 }
 
-// Writes all of `src` into `words` from word `at` on.
-fn put_words(words: &mut [u32], at: usize, src: &[u32])
-    requires { ⌜ at + length (now src) ≤ length (now words) ⌝ }
-    ensures { λ _. ⌜ now (words .exit) ≡ splice (now (words .entry)) at (now (src .entry)) ⌝ }
-{
-    let mut j = 0;
-    while j < src.len() {
-        words[at + j] = src[j];
-        j += 1;
-    }
-}
-
-// Writes all of `src` into `bytes` from byte `at` on.
-fn put_bytes(bytes: &mut [u8], at: usize, src: &[u8])
-    requires { ⌜ at + length (now src) ≤ length (now bytes) ⌝ }
-    ensures { λ _. ⌜ now (bytes .exit) ≡ splice (now (bytes .entry)) at (now (src .entry)) ⌝ }
-{
-    let mut j = 0;
-    while j < src.len() {
-        bytes[at + j] = src[j];
-        j += 1;
-    }
-}
-
 // The two words of a mark, by a message's distance.
 fn mark_words(distance: u32) -> [u32; 2]
     ensures { λ r. ⌜ r ≡ bit (eqb distance noChain) ∷ distance ∷ [] ⌝ }
@@ -81,7 +59,7 @@ fn put_marks(links: &mut [u32], n: u32, d: [u32; 256])
     let mut m: u32 = 0;
     while m < n {
         let mark = mark_words(d[m as usize]);
-        put_words(links, m as usize * 10 + 8, &mark);
+        put::put_words(links, m as usize * link_rows::MESSAGE_LINK + 8, &mark);
         m += 1;
     }
 }
@@ -133,29 +111,19 @@ fn write(
     let f = w + image.len();
     let k = f + front.len();
     let e = k + fields.len();
-    put_words(words, w, image);
-    put_words(words, f, front);
-    put_words(words, k, fields);
-    put_words(words, e, &end);
+    put::put_words(words, w, image);
+    put::put_words(words, f, front);
+    put::put_words(words, k, fields);
+    put::put_words(words, e, &end);
     let b = used.bytes as usize;
-    put_bytes(bytes, b, pool);
-}
-
-// How many words the link rows of messages, enums and oneofs have.
-fn link_words(s: Sections) -> usize
-    ensures { λ r. ⌜ r ≡ s .messages .count * messageLinkWidth + (s .enums .count * enumLinkWidth + s .oneofs .count * oneofLinkWidth) ⌝ }
-{
-    let messages = rows::count_of(s, Kind::Message) as usize;
-    let enums = rows::count_of(s, Kind::Enum) as usize;
-    let oneofs = rows::count_of(s, Kind::Oneof) as usize;
-    messages * 10 + (enums * 2 + oneofs * 4)
+    put::put_bytes(bytes, b, pool);
 }
 
 // How many words the link rows of fields have.
 fn field_words(s: Sections) -> usize
     ensures { λ r. ⌜ r ≡ s .fields .count * fieldLinkWidth ⌝ }
 {
-    rows::count_of(s, Kind::Field) as usize * 16
+    rows::count_of(s, Kind::Field) as usize * link_rows::FIELD_LINK
 }
 
 // 18: no room for the record or the pool.
@@ -165,7 +133,7 @@ fn judge_room(words: &[u32], bytes: &[u8], used: Used, image: &[u32], pool: &[u8
     ensures { λ r. ⌜ r ≡ first (roomLines (callOf (now (words .entry)) (now (bytes .entry)) used (now (image .entry)) (now (pool .entry)))) ⌝ }
 {
     let s = rows::read_sections(image);
-    let n = link_words(s);
+    let n = link_rows::link_words(s);
     let k = field_words(s);
     if words.len() < used.words as usize + (image.len() + (n + (k + 8))) {
         return Verdict::Stopped(Refusal::NoRoom, 0);
@@ -263,7 +231,7 @@ fn judge_opened(
     match opened {
         Verdict::Stopped(r, place) => Verdict::Stopped(r, place),
         Verdict::Passed => {
-            let n = link_words(rows::read_sections(image));
+            let n = link_rows::link_words(rows::read_sections(image));
             judge_seen(
                 words,
                 bytes,
@@ -316,7 +284,7 @@ fn accept(
     ensures { λ _. ⌜ now (bytes .exit) ≡ splice (now (bytes .entry)) (used .bytes) (now (pool .entry)) ⌝ }
 {
     let s = rows::read_sections(image);
-    let n = link_words(s);
+    let n = link_rows::link_words(s);
     let k = field_words(s);
     let marks = compute_marks(
         words,

@@ -1,0 +1,22 @@
+-- `link::put::put_words` meets its contract. Assumes nothing.
+use borrow.Author.Needs.{needs}
+use Rattle.link.proofs.PutLaws.{put-behind}
+use Rattle.link.proofs.put.put_words.Statement.{statement}
+use Rattle.link.proofs.put.put_words.Tie as tie
+
+returns : tie.Need-returns
+returns c =
+    let a = c .before .before .before .before .before .before .args in
+    put-behind (a .words .now) (a .at) (a .src .now) (c .before .before .before .before .before .before .pre) _ (c .before .before .put-front .ensures)
+
+pub put-words-spec : {M : Type 1} → statement M
+put-words-spec =
+    tie.close
+    (tie.spec
+    (λ c. search needs)
+    (λ c. search needs)
+    (λ c. search needs)
+    (λ c. search needs)
+    (λ c κs. search needs)
+    (λ c. search needs)
+    returns)
