@@ -120,11 +120,11 @@ default-three value Unreadable = refl
 default-three value Unsupported = refl
 
 module _ (s : Sight) (list : List ℕ) (f : FieldSays) where
-  default-length : length (defaultPart s list f) ≡ 3
+  pub default-length : length (defaultPart s list f) ≡ 3
   unfolding defaultPart
   default-length = by (isGiven f) (λ t. rw t (default-three (namedDefault s list f) (defaultRead f))) (λ t. rw t)
 
-  extendee-length : length (extendeePart s list f) ≡ 2
+  pub extendee-length : length (extendeePart s list f) ≡ 2
   unfolding extendeePart
   extendee-length = by (hasExtendee f) (λ t. rw t) (λ t. rw t)
 

@@ -3,7 +3,6 @@ pub mod VisitLaws
 pub mod PushLaws
 pub mod RunLaws
 pub mod SearchLaws
-pub mod ReachLaws
 pub mod ResolveLaws
 pub mod TargetLaws
 pub mod FieldLaws
@@ -13,14 +12,12 @@ pub mod FileIndexLaws
 pub mod ChainLaws
 pub mod TurnLaws
 pub mod RoundLaws
-pub mod ChainTheorems
 pub mod EdgeLaws
 pub mod CauseLaws
 pub mod GraphLaws
 pub mod FirstLaws
 pub mod TableLaws
-pub mod Demands
 pub mod ShelfFacts
-pub mod TargetFacts
 pub mod RecordLaws
 pub mod PhaseLaws
+pub mod AuditLaws

@@ -79,7 +79,7 @@ splice-two a b z v r n e f =
     ∙ ap (λ (l : List ℕ). a ++ l) (sym (append-assoc b v r))
 
 -- a row of a run
-drop-run : (f : ℕ → List ℕ) (wide : (x : ℕ) → length (f x) ≡ 10) (n m : ℕ) (rest : List ℕ) → m < n
+pub drop-run : (f : ℕ → List ℕ) (wide : (x : ℕ) → length (f x) ≡ 10) (n m : ℕ) (rest : List ℕ) → m < n
     → drop (m * 10) (run f 0 n ++ rest) ≡ f m ++ drop ((m + 1) * 10) (run f 0 n ++ rest)
 drop-run f wide n m rest h =
     let k = n - (m + 1) in
@@ -92,7 +92,7 @@ drop-run f wide n m rest h =
     ∙ drop-at (run f 0 m) (f m ++ tail) (m * 10) (run-length f 10 wide 0 m)
     ∙ ap (λ (l : List ℕ). f m ++ l) (sym (ap (drop ((m + 1) * 10)) s ∙ drop-at (run f 0 (m + 1)) tail ((m + 1) * 10) (run-length f 10 wide 0 (m + 1))))
 
-links-row : (g : Schema) (m : ℕ) → m < g .messages → drop (m * 10) (linksOf g) ≡ messageLink g m ++ drop ((m + 1) * 10) (linksOf g)
+pub links-row : (g : Schema) (m : ℕ) → m < g .messages → drop (m * 10) (linksOf g) ≡ messageLink g m ++ drop ((m + 1) * 10) (linksOf g)
 unfolding linksOf
 links-row g m h = drop-run (messageLink g) (λ x. refl) (g .messages) m (enumLinks g (g .messages) ++ oneofLinks g (g .messages)) h
 

@@ -1,6 +1,6 @@
 -- What the search list is, whatever the imports: every file of it is on the shelf, none is in it twice, and so it is short. Assumes nothing.
 use mathlib.Core.Path.{_≡_, refl, sym, _∙_}
-use mathlib.Core.Bool.{false, _||_, cond}
+use mathlib.Core.Bool.{false, _||_}
 use mathlib.Core.List.{List, [], _∷_, _++_}
 use Prim.Native.Nat.{ℕ, zero, suc, _-_, _<_, _≤_}
 use native.Mathlib.Omega.{arith}
@@ -113,12 +113,3 @@ module _ (files : List File) (g : Schema) {n : ℕ} (l : length files ≡ n) (s 
 
   pub searchable-few : length (searchList (publicsOf files) n (importsOf files g)) ≤ n
   searchable-few = let fit = fits files g l s in search-few (publicsOf files) n (fit .earlier) (importsOf files g) (fit .direct-in)
-
--- ---- a worked row: p and q are imported, and p publicly imports r, then s. On a shelf of r = 0, s = 1, p = 2, q = 3 the list is p, s, r, q
-
-abbrev workedPublics : ℕ → List ℕ
-workedPublics f = cond (eqb f 2) (0 ∷ 1 ∷ []) []
-
-pub worked : searchList workedPublics 4 (2 ∷ 3 ∷ []) ≡ 2 ∷ 1 ∷ 0 ∷ 3 ∷ []
-unfolding searchList
-worked = refl

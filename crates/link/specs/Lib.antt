@@ -9,3 +9,4 @@ pub mod Rows
 pub mod Refusals
 pub mod Link
 pub mod Phases
+pub mod Audit

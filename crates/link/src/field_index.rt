@@ -435,7 +435,7 @@ fn is_entry(
 }
 
 // Field `j` of the message with flat number `m` of a file, as sixteen words.
-fn field_in(image: &[u32], pool: &[u8], links: &[u32], m: Flat, j: u32) -> [u32; 16]
+pub(crate) fn field_in(image: &[u32], pool: &[u8], links: &[u32], m: Flat, j: u32) -> [u32; 16]
     ensures { λ r. ⌜ fieldOf r (now (pool .entry)) ≡ fieldIn (record { image = now (image .entry); pool = now (pool .entry); links = now (links .entry) }) (m .0) j ⌝ }
 {
     let s = rows::read_sections(image);

@@ -1,4 +1,5 @@
 // The linker. Below stand `image`, what images and shelves say, and `names`, the rules of texts; what is cited of them is what they promise.
+pub mod audit;
 mod building;
 mod fds;
 mod field_index;

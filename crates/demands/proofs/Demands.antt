@@ -1,24 +1,34 @@
 -- What linking owes its callers, over the outcome `linked` that the code is proved to have. Assumes nothing.
 use mathlib.Core.Path.{_≡_, refl, sym, ap, _∙_}
 use mathlib.Core.Logic.{_↔_}
+use mathlib.Core.Bool.{false}
 use mathlib.Core.List.{List}
 use Prim.Native.Nat.{ℕ, _+_, _≤_, _<_}
 use native.Mathlib.Omega.{arith}
 use lib.ListN.{length, getD}
 use borrow.Author.Tests.{leb-true}
+use Rattle.lists.specs.Below.{anyBelow}
+use Rattle.lists.specs.Lists.{same}
 use Rattle.lists.specs.Splice.{splice}
+use Rattle.lists.proofs.Cases.{clash, order, equal}
+use Rattle.lists.proofs.BelowLaws.{anyBelow-false}
+use Rattle.lists.proofs.ListLaws.{same-refl}
 use Rattle.lists.proofs.SpliceLaws.{length-splice, getD-splice-in, getD-splice-before, getD-splice-behind}
+use Rattle.image.specs.Schema.{Schema}
+use Rattle.image.specs.Links.{linksOf}
+use Rattle.image.specs.FullName.{items, fullName, sharesName}
 use Rattle.image.specs.Shelf.{usedWith}
 use Rattle.image.specs.Verdict.{first}
+use Rattle.image.specs.Judge.{namingLines}
 use Rattle.image.specs.declared.shelf.Used.{Used}
 use Rattle.image.specs.declared.verdict.Refusal.{Refusal}
 use Rattle.image.specs.declared.verdict.Verdict.{Verdict}
 use Rattle.image.specs.declared.verdict.Verdict.the-variants.{Passed, Stopped}
-use Rattle.link.specs.Refusals.{Call, newFile, newRecord, table}
+use Rattle.link.specs.Refusals.{Call, said, newFile, newRecord, table}
 use Rattle.link.specs.Link.{Outcome, outcome, linked}
 use Rattle.link.specs.declared.link.Linked.{Linked}
 use Rattle.link.specs.declared.link.Linked.the-variants.{Accepted, Refused}
-use Rattle.link.proofs.TableLaws.{all-passed, room-pass, Given, NoneGiven, none-given, given-none, first-given, given-first}
+use Rattle.link.proofs.TableLaws.{namingGroup, all-passed, room-pass, Given, NoneGiven, none-given, given-none, first-given, given-first}
 
 -- ---- the outcome, by the table's verdict
 
@@ -125,3 +135,33 @@ accepted-exactly-if c = (
   (λ h. none-given (table c) (accepted-verdict c h .0)),
   (λ n. ap (λ (x : Outcome). x .answer) (linked-passed c (given-none (table c) n))),
 )
+
+-- ---- one outcome
+
+-- Two outcomes that the promise of `link` allows are equal.
+pub outcomes-equal : (c : Call) (o p : Outcome) → o ≡ linked c → p ≡ linked c → o ≡ p
+outcomes-equal c o p e f = e ∙ sym f
+
+-- ---- full names
+
+module _ (g : Schema) (links : List ℕ) (unshared : sharesName g links ≡ false) where
+  earlier-differs : (i j : ℕ) → i < items g → j < i → same (fullName g links i) (fullName g links j) ≡ false
+  unfolding sharesName
+  earlier-differs i j h l =
+      anyBelow-false i (λ k. same (fullName g links i) (fullName g links k)) (anyBelow-false (items g) (λ x. anyBelow x (λ k. same (fullName g links x) (fullName g links k))) unshared i h) j l
+
+  -- two names that are equal are not those of an item and an earlier one
+  not-earlier : {C : Type 0} (i j : ℕ) → i < items g → j < i → fullName g links i ≡ fullName g links j → C
+  not-earlier i j h l e =
+      clash (same (fullName g links i) (fullName g links j)) (ap (same (fullName g links i)) (sym e) ∙ same-refl (fullName g links i)) (earlier-differs i j h l)
+
+  names-differ : (i j : ℕ) → i < items g → j < items g → fullName g links i ≡ fullName g links j → i ≡ j
+  names-differ i j h k e =
+      order i j (λ l. not-earlier j i k l (sym e)) (λ l. equal i j (λ q. q) (λ n. not-earlier i j h (omega (arith, l, n)) e))
+
+-- In an accepted file no two messages or enums have one full name. As items the messages come first, in flat order, then the enums.
+pub accepted-names-differ : (c : Call) (u : Used) → linked c .answer ≡ Accepted u → (i j : ℕ) → i < items (said c) → j < items (said c)
+    → fullName (said c) (linksOf (said c)) i ≡ fullName (said c) (linksOf (said c)) j → i ≡ j
+unfolding namingLines
+accepted-names-differ c u h =
+    names-differ (said c) (linksOf (said c)) (none-given (namingGroup c) (all-passed c (accepted-verdict c h .0) .naming) .0)

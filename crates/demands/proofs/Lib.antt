@@ -1,0 +1,12 @@
+pub mod ChainTheorems
+pub mod ReachLaws
+pub mod TargetFacts
+pub mod Demands
+pub mod RowFacts
+pub mod DefaultFacts
+pub mod FitFacts
+pub mod FieldFacts
+pub mod ShelfTheorems
+pub mod MarkTheorems
+pub mod AuditTheorems
+pub mod WorkedLaws

@@ -1,0 +1,99 @@
+-- Demand 3, over the words that an accepted call writes: each message's mark is true. Assumes nothing.
+use mathlib.Core.Path.{_≡_, ap, _∙_}
+use mathlib.Core.List.{_++_}
+use Prim.Native.Nat.{ℕ, _+_, _<_, _≤_}
+use native.Mathlib.Omega.{arith}
+use lib.Dec.{eqb}
+use lib.ListN.{length, length-append, List·getD-append}
+use lib.Seq.{getD-append-add}
+use borrow.Author.Tests.{eq-eqb, ne-eqb}
+use Rattle.lists.specs.Below.{bit}
+use Rattle.lists.proofs.Cases.{either}
+use Rattle.image.specs.Words.{wordAt}
+use Rattle.image.specs.Record.{messageLinkAt, endWords}
+use Rattle.image.specs.LinkTests.{noDistance}
+use Rattle.image.specs.declared.shelf.Used.{Used}
+use Rattle.link.specs.Search.{searched}
+use Rattle.link.specs.Chain.{Graph, Marked, Distance, noChain, distance}
+use Rattle.link.specs.Marks.{graphOf}
+use Rattle.link.specs.Refusals.{Call, said, seen, newFile}
+use Rattle.link.specs.Link.{linked}
+use Rattle.demands.specs.Demands.{graphOfCall, messageWrittenAt, alwaysWord, distanceWord, MarksTrue}
+use Rattle.link.specs.declared.link.Linked.the-variants.{Accepted}
+use Rattle.demands.proofs.ChainTheorems.{distance-or, marked-distance, distance-shortest}
+use Rattle.link.proofs.PhaseLaws.{all-links-length}
+use Rattle.demands.proofs.RowFacts.{always-word, distance-word}
+use Rattle.demands.proofs.Demands.{accepted-verdict, acceptance-words}
+use Rattle.demands.proofs.ShelfTheorems.{passed-sound}
+
+-- ---- the two words of a mark, for a graph of few messages
+
+module _ (g : Graph) (i : ℕ) (l : i < g .n) (few : g .n ≤ 256) {always far : ℕ} (a : always ≡ bit (eqb (distance g i) noChain)) (d : far ≡ distance g i) where
+  -- the word is 1 without a distance, or 0 with one
+  unmarked-words : distance g i ≡ noChain → (always ≡ 1) × (far ≡ noDistance)
+  unmarked-words e = (a ∙ ap bit (eq-eqb (distance g i) noChain e), d ∙ e)
+
+  marked-words : distance g i < g .n → (always ≡ 0) × (far < g .n)
+  marked-words h = let apart : distance g i ≡ noChain → ⊥ = λ e. omega arith in (a ∙ ap bit (ne-eqb (distance g i) noChain apart), omega arith)
+
+  zero-below : always ≡ 0 → distance g i < g .n
+  zero-below z = either (distance-or g i) (λ e. absurd (omega (arith, unmarked-words e .0))) (λ h. h)
+
+  pub zero-marked : always ≡ 0 → Marked g i
+  zero-marked z = marked-distance g i l (omega arith) .1 (zero-below z)
+
+  pub marked-zero : Marked g i → always ≡ 0
+  marked-zero m = marked-words (marked-distance g i l (omega arith) .0 m) .0
+
+  pub zero-shortest : always ≡ 0 → Distance g i far
+  zero-shortest z = rw d (distance-shortest g i l (zero-marked z))
+
+  pub zero-few : always ≡ 0 → far < g .n
+  zero-few z = marked-words (zero-below z) .1
+
+  pub not-zero : (always ≡ 0 → ⊥) → (always ≡ 1) × (far ≡ noDistance)
+  not-zero n = either (distance-or g i) unmarked-words (λ h. absurd (n (marked-words h .0)))
+
+-- ---- where they stand
+
+module _ (c : Call) (u : Used) (h : linked c .answer ≡ Accepted u) where
+  -- a word of the link rows, on the shelf
+  written-word : (k : ℕ) → k < length (newFile c .links) → wordAt (linked c .words) (c .used .words + (length (c .image) + k)) ≡ wordAt (newFile c .links) k
+  written-word k l =
+      let links = newFile c .links in
+      let end = endWords (newFile c) (c .used .words) (c .used .bytes) in
+      acceptance-words c u h .there (length (c .image) + k) (omega (arith, length-append (c .image) (links ++ end), length-append links end))
+      ∙ getD-append-add (c .image) (links ++ end) k 0
+      ∙ List·getD-append links end 0 k l
+
+  module _ (m : ℕ) (l : m < said c .messages) where
+    -- word k of the link row of message m
+    row-word : (k : ℕ) → k < 10 → wordAt (linked c .words) (messageWrittenAt c m + k) ≡ wordAt (newFile c .links) (messageLinkAt m + k)
+    row-word k s =
+        let size = all-links-length (seen c) (searched (seen c)) (passed-sound c (accepted-verdict c h .0)) in
+        let e : messageWrittenAt c m + k ≡ c .used .words + (length (c .image) + (messageLinkAt m + k)) = omega arith in
+        ap (wordAt (linked c .words)) e ∙ written-word (messageLinkAt m + k) (omega (arith, size))
+
+    always-is : alwaysWord c m ≡ bit (eqb (distance (graphOfCall c) m) noChain)
+    always-is = row-word 8 (omega arith) ∙ always-word (seen c) (searched (seen c)) m l
+
+    distance-is : distanceWord c m ≡ distance (graphOfCall c) m
+    distance-is = row-word 9 (omega arith) ∙ distance-word (seen c) (searched (seen c)) m l
+
+    few-messages : said c .messages ≤ 256
+    few-messages = passed-sound c (accepted-verdict c h .0) .few-messages
+
+-- Each mark of an accepted file is true.
+pub marks-true : (c : Call) (u : Used) → linked c .answer ≡ Accepted u → (m : ℕ) → m < said c .messages → MarksTrue c m
+unfolding graphOf
+marks-true c u h m l =
+    let g = graphOfCall c in
+    let few = few-messages c u h m l in
+    let a = always-is c u h m l in
+    let d = distance-is c u h m l in
+    record {
+      marked = (zero-marked g m l few a d, marked-zero g m l few a d);
+      shortest = zero-shortest g m l few a d;
+      below = zero-few g m l few a d;
+      unmarked = not-zero g m l few a d;
+    }

@@ -1,0 +1,5 @@
+pub mod WordLaws
+pub mod ReadLaws
+pub mod WriteLaws
+pub mod RoundTripLaws
+pub mod WorkedLaws
