@@ -14,8 +14,8 @@ use crate::case::{Expect, Image};
 /// A refusal: number and place.
 type Drawn = Result<(), (u32, u32)>;
 
-const MOST_IMAGE_WORDS: usize = 65_536;
-const MOST_POOL_BYTES: usize = 32_768;
+pub const MOST_IMAGE_WORDS: usize = 65_536;
+pub const MOST_POOL_BYTES: usize = 32_768;
 pub const MOST_SHELF_WORDS: usize = 262_144;
 pub const MOST_SHELF_BYTES: usize = 131_072;
 pub const MOST_FILES: usize = 32;

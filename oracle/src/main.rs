@@ -5,6 +5,7 @@ mod case;
 mod compare;
 mod damage;
 mod domain;
+mod files;
 mod image;
 mod index;
 mod limits;
@@ -25,24 +26,27 @@ use std::process::ExitCode;
 
 use case::Case;
 
-const USAGE: &str = "usage: oracle cases real|random|purpose|limits|damage [--seed N] [--count N] [-o FILE]
+const USAGE: &str =
+    "usage: oracle cases real|random|purpose|limits|damage [--seed N] [--count N] [-o FILE]
        oracle compile FILES PROTOC OUT
        oracle stored DIR
        oracle answers CASES [-o FILE]
        oracle compare CASES CRATE_ANSWERS OUR_ANSWERS [--keep FILE]
-       oracle show CASES NAME";
+       oracle show CASES NAME
+       oracle image SET -o FOLDER";
 
-/// What a command comes to: nothing wrong, or differences found.
+/// What a command comes to: nothing wrong, differences found, or files left out.
 enum Outcome {
     Good,
     Differences,
+    LeftOut,
 }
 
 fn main() -> ExitCode {
     let args: Vec<String> = std::env::args().skip(1).collect();
     match on_a_deep_stack(move || run(&args)) {
         Ok(Outcome::Good) => ExitCode::SUCCESS,
-        Ok(Outcome::Differences) => ExitCode::from(1),
+        Ok(Outcome::Differences | Outcome::LeftOut) => ExitCode::from(1),
         Err(text) => {
             eprintln!("oracle: {text}");
             ExitCode::from(2)
@@ -55,8 +59,12 @@ fn on_a_deep_stack(
     work: impl FnOnce() -> Result<Outcome, String> + Send + 'static,
 ) -> Result<Outcome, String> {
     let builder = std::thread::Builder::new().stack_size(answers::STACK);
-    let worker = builder.spawn(work).map_err(|e| format!("no thread to work in: {e}"))?;
-    worker.join().unwrap_or_else(|_| Err("the oracle itself panicked".to_owned()))
+    let worker = builder
+        .spawn(work)
+        .map_err(|e| format!("no thread to work in: {e}"))?;
+    worker
+        .join()
+        .unwrap_or_else(|_| Err("the oracle itself panicked".to_owned()))
 }
 
 fn run(args: &[String]) -> Result<Outcome, String> {
@@ -70,6 +78,7 @@ fn run(args: &[String]) -> Result<Outcome, String> {
         "compare" => compare(rest),
         "show" => show(rest),
         "stored" => stored(rest),
+        "image" => image(rest),
         other => Err(format!("there is no command `{other}`\n{USAGE}")),
     }
 }
@@ -88,17 +97,23 @@ fn take_option(args: &[String], flag: &str) -> Result<(Vec<String>, Option<Strin
     Ok((plain, Some(value)))
 }
 
-fn take_number<T: std::str::FromStr>(args: &[String], flag: &str) -> Result<(Vec<String>, Option<T>), String> {
+fn take_number<T: std::str::FromStr>(
+    args: &[String],
+    flag: &str,
+) -> Result<(Vec<String>, Option<T>), String> {
     let (plain, value) = take_option(args, flag)?;
     let wrong = |text: &String| format!("{flag} needs a number, not `{text}`\n{USAGE}");
-    let number = value.map(|text| text.parse().map_err(|_| wrong(&text))).transpose()?;
+    let number = value
+        .map(|text| text.parse().map_err(|_| wrong(&text)))
+        .transpose()?;
     Ok((plain, number))
 }
 
 /// Exactly so many plain arguments.
 fn plain<const N: usize>(args: Vec<String>) -> Result<[String; N], String> {
     let count = args.len();
-    args.try_into().map_err(|_| format!("{N} arguments are wanted, not {count}\n{USAGE}"))
+    args.try_into()
+        .map_err(|_| format!("{N} arguments are wanted, not {count}\n{USAGE}"))
 }
 
 fn read(path: &str) -> Result<String, String> {
@@ -113,7 +128,9 @@ fn read_cases(path: &str) -> Result<Vec<Case>, String> {
 fn write(path: Option<&str>, text: &str) -> Result<(), String> {
     match path {
         Some(path) => std::fs::write(path, text).map_err(|e| format!("{path}: {e}")),
-        None => std::io::stdout().write_all(text.as_bytes()).map_err(|e| format!("standard output: {e}")),
+        None => std::io::stdout()
+            .write_all(text.as_bytes())
+            .map_err(|e| format!("standard output: {e}")),
     }
 }
 
@@ -130,7 +147,10 @@ fn cases(args: &[String]) -> Result<Outcome, String> {
 
 fn compile(args: &[String]) -> Result<Outcome, String> {
     let [files, protoc, out] = plain(args.to_vec())?;
-    println!("{}", protoc::compile(files.as_ref(), protoc.as_ref(), out.as_ref())?);
+    println!(
+        "{}",
+        protoc::compile(files.as_ref(), protoc.as_ref(), out.as_ref())?
+    );
     Ok(Outcome::Good)
 }
 
@@ -155,16 +175,26 @@ fn compare(args: &[String]) -> Result<Outcome, String> {
     let (args, keep) = take_option(args, "--keep")?;
     let [case_path, crate_path, our_path] = plain(args)?;
     let cases = read_cases(&case_path)?;
-    let read_answers = |path: &str| case::read_answers(&read(path)?).map_err(|e| format!("{path}: {e}"));
-    let report = compare::compare(&cases, &read_answers(&crate_path)?, &read_answers(&our_path)?)?;
+    let read_answers =
+        |path: &str| case::read_answers(&read(path)?).map_err(|e| format!("{path}: {e}"));
+    let report = compare::compare(
+        &cases,
+        &read_answers(&crate_path)?,
+        &read_answers(&our_path)?,
+    )?;
     for line in &report.lines {
         println!("{line}");
     }
     println!("{}", report.summary());
-    let Some(smallest) = report.smallest else { return Ok(Outcome::Good) };
+    let Some(smallest) = report.smallest else {
+        return Ok(Outcome::Good);
+    };
     if let Some(path) = keep {
         write(Some(&path), &case::write_cases(&cases[smallest..=smallest]))?;
-        println!("the smallest differing case, `{}`, is in {path}", cases[smallest].name);
+        println!(
+            "the smallest differing case, `{}`, is in {path}",
+            cases[smallest].name
+        );
     }
     Ok(Outcome::Differences)
 }
@@ -183,4 +213,21 @@ fn stored(args: &[String]) -> Result<Outcome, String> {
     let [folder] = plain(args.to_vec())?;
     eprintln!("{}", stored::write(folder.as_ref())?);
     Ok(Outcome::Good)
+}
+
+fn image(args: &[String]) -> Result<Outcome, String> {
+    let (args, folder) = take_option(args, "-o")?;
+    let [set] = plain(args)?;
+    let folder = folder.ok_or_else(|| format!("-o FOLDER is wanted\n{USAGE}"))?;
+    let mut outcome = Outcome::Good;
+    for line in files::write(set.as_ref(), folder.as_ref())? {
+        match line {
+            Ok(written) => println!("{written}"),
+            Err(left_out) => {
+                eprintln!("{left_out}");
+                outcome = Outcome::LeftOut;
+            }
+        }
+    }
+    Ok(outcome)
 }

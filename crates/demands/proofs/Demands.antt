@@ -1,11 +1,10 @@
--- What linking owes its callers, over the outcome `linked` that the code is proved to have. Assumes nothing.
+-- Demand 1, and of demand 2 that full names differ. Assumes nothing.
 use mathlib.Core.Path.{_≡_, refl, sym, ap, _∙_}
-use mathlib.Core.Logic.{_↔_}
 use mathlib.Core.Bool.{false}
 use mathlib.Core.List.{List}
 use Prim.Native.Nat.{ℕ, _+_, _≤_, _<_}
 use native.Mathlib.Omega.{arith}
-use lib.ListN.{length, getD}
+use lib.ListN.{length}
 use borrow.Author.Tests.{leb-true}
 use Rattle.lists.specs.Below.{anyBelow}
 use Rattle.lists.specs.Lists.{same}
@@ -25,10 +24,11 @@ use Rattle.image.specs.declared.verdict.Refusal.{Refusal}
 use Rattle.image.specs.declared.verdict.Verdict.{Verdict}
 use Rattle.image.specs.declared.verdict.Verdict.the-variants.{Passed, Stopped}
 use Rattle.link.specs.Refusals.{Call, said, newFile, newRecord, table}
-use Rattle.link.specs.Link.{Outcome, outcome, linked}
+use Rattle.link.specs.Link.{answerUsed, Outcome, outcome, linked}
 use Rattle.link.specs.declared.link.Linked.{Linked}
 use Rattle.link.specs.declared.link.Linked.the-variants.{Accepted, Refused}
-use Rattle.link.proofs.TableLaws.{namingGroup, all-passed, room-pass, Given, NoneGiven, none-given, given-none, first-given, given-first}
+use Rattle.link.proofs.TableLaws.{namingGroup, all-passed, room-pass, none-given, given-none, first-given, given-first}
+use Rattle.demands.specs.Demands.{usedAfter, RefusedExactlyIf, AcceptedExactlyIf, RefusalLeaves, Written, AcceptanceAppends, OneOutcome, NamesDiffer}
 
 -- ---- the outcome, by the table's verdict
 
@@ -70,67 +70,62 @@ module _ (c : Call) where
 
 -- ---- a refusal leaves all as it was
 
--- The words and bytes of the shelf are those that were lent.
-pub refusal-leaves-all : (c : Call) (r : Refusal) (p : ℕ) → linked c .answer ≡ Refused r p → (linked c .words ≡ c .words) × (linked c .bytes ≡ c .bytes)
-refusal-leaves-all c r p h =
+pub refusal-leaves : (c : Call) → RefusalLeaves c
+refusal-leaves c r p h =
     let o = linked-stopped c (refused-verdict c h) in
-    (ap (λ (x : Outcome). x .words) o, ap (λ (x : Outcome). x .bytes) o)
+    record { words = ap (λ (x : Outcome). x .words) o; bytes = ap (λ (x : Outcome). x .bytes) o; numbers = ap (answerUsed (c .used)) h }
 
 -- ---- an acceptance changes only the room just behind what was used
 
--- The record goes just behind the used words, the pool just behind the used bytes, and the three numbers count them.
-pub acceptance-appends : (c : Call) (u : Used) → linked c .answer ≡ Accepted u →
-    (u ≡ usedWith (c .used) (newFile c))
-    × (linked c .words ≡ splice (c .words) (c .used .words) (newRecord c))
-    × (linked c .bytes ≡ splice (c .bytes) (c .used .bytes) (c .pool))
-acceptance-appends c u h =
-    let v = accepted-verdict c h in
-    let o = linked-passed c (v .0) in
-    (v .1, ap (λ (x : Outcome). x .words) o, ap (λ (x : Outcome). x .bytes) o)
+module _ (c : Call) (u : Used) (h : linked c .answer ≡ Accepted u) where
+  -- the three numbers, the words and the bytes, as the verdict gives them
+  pub accepted-outcome : (u ≡ usedWith (c .used) (newFile c))
+      × (linked c .words ≡ splice (c .words) (c .used .words) (newRecord c))
+      × (linked c .bytes ≡ splice (c .bytes) (c .used .bytes) (c .pool))
+  accepted-outcome =
+      let v = accepted-verdict c h in
+      let o = linked-passed c (v .0) in
+      (v .1, ap (λ (x : Outcome). x .words) o, ap (λ (x : Outcome). x .bytes) o)
 
--- The record and the pool fit behind what was used.
-pub accepted-fits : (c : Call) (u : Used) → linked c .answer ≡ Accepted u →
-    (c .used .words + length (newRecord c) ≤ length (c .words)) × (c .used .bytes + length (c .pool) ≤ length (c .bytes))
-accepted-fits c u h =
-    let r = room-pass c (all-passed c (accepted-verdict c h .0) .room) in
-    (leb-true (c .used .words + length (newRecord c)) (length (c .words)) (r .0), leb-true (c .used .bytes + length (c .pool)) (length (c .bytes)) (r .1 .0))
+  -- there is room for the record and the pool
+  pub accepted-fits : (c .used .words + length (newRecord c) ≤ length (c .words)) × (c .used .bytes + length (c .pool) ≤ length (c .bytes))
+  accepted-fits =
+      let r = room-pass c (all-passed c (accepted-verdict c h .0) .room) in
+      (leb-true (c .used .words + length (newRecord c)) (length (c .words)) (r .0), leb-true (c .used .bytes + length (c .pool)) (length (c .bytes)) (r .1 .0))
 
--- `vs` stands in `now` from place `at` on; before it, behind it and in length all is as in `was`
-pub record Written (was now vs : List ℕ) (at : ℕ) : Type 0 where
-  pub size : length now ≡ length was
-  pub before : (k : ℕ) → k < at → getD now k 0 ≡ getD was k 0
-  pub there : (k : ℕ) → k < length vs → getD now (at + k) 0 ≡ getD vs k 0
-  pub behind : (k : ℕ) → at + length vs ≤ k → getD now k 0 ≡ getD was k 0
+  pub used-after : usedAfter c ≡ u
+  used-after = ap (answerUsed (c .used)) h
 
 written : (was vs : List ℕ) (at : ℕ) → at + length vs ≤ length was → Written was (splice was at vs) vs at
 written was vs at h =
     let l : at ≤ length was = omega arith in
     record {
+      room = h;
       size = length-splice was at vs h;
       before = λ k m. getD-splice-before was at vs k 0 l m;
       there = λ k m. getD-splice-in was at vs k 0 l m;
       behind = λ k m. getD-splice-behind was at vs k 0 l m;
     }
 
--- So each used word, and each word behind the new record, is unchanged.
-pub acceptance-words : (c : Call) (u : Used) → linked c .answer ≡ Accepted u → Written (c .words) (linked c .words) (newRecord c) (c .used .words)
-acceptance-words c u h = rw (acceptance-appends c u h .1) (written (c .words) (newRecord c) (c .used .words) (accepted-fits c u h .0))
-
--- So each used byte, and each byte behind the new pool, is unchanged.
-pub acceptance-bytes : (c : Call) (u : Used) → linked c .answer ≡ Accepted u → Written (c .bytes) (linked c .bytes) (c .pool) (c .used .bytes)
-acceptance-bytes c u h = rw (acceptance-appends c u h .2) (written (c .bytes) (c .pool) (c .used .bytes) (accepted-fits c u h .1))
+pub acceptance-appends : (c : Call) → AcceptanceAppends c
+acceptance-appends c u h =
+    let o = accepted-outcome c u h in
+    let room = accepted-fits c u h in
+    record {
+      words = rw (o .1) (written (c .words) (newRecord c) (c .used .words) (room .0));
+      bytes = rw (o .2) (written (c .bytes) (c .pool) (c .used .bytes) (room .1));
+      numbers = used-after c u h ∙ o .0;
+    }
 
 -- ---- exactly if
 
--- A refusal is given, with its place, exactly if its line is the first of the table that is given.
-pub refused-exactly-if : (c : Call) (r : Refusal) (p : ℕ) → (linked c .answer ≡ Refused r p) ↔ Given (table c) r p
+pub refused-exactly-if : (c : Call) → RefusedExactlyIf c
 refused-exactly-if c r p = (
   (λ h. first-given (table c) r p (refused-verdict c h)),
   (λ g. ap (λ (x : Outcome). x .answer) (linked-stopped c (given-first (table c) r p g))),
 )
 
--- A file is accepted exactly if no line is given.
-pub accepted-exactly-if : (c : Call) → (linked c .answer ≡ Accepted (usedWith (c .used) (newFile c))) ↔ NoneGiven (table c)
+pub accepted-exactly-if : (c : Call) → AcceptedExactlyIf c
 accepted-exactly-if c = (
   (λ h. none-given (table c) (accepted-verdict c h .0)),
   (λ n. ap (λ (x : Outcome). x .answer) (linked-passed c (given-none (table c) n))),
@@ -138,9 +133,8 @@ accepted-exactly-if c = (
 
 -- ---- one outcome
 
--- Two outcomes that the promise of `link` allows are equal.
-pub outcomes-equal : (c : Call) (o p : Outcome) → o ≡ linked c → p ≡ linked c → o ≡ p
-outcomes-equal c o p e f = e ∙ sym f
+pub one-outcome : (c : Call) → OneOutcome c
+one-outcome c o p e f = e ∙ sym f
 
 -- ---- full names
 
@@ -159,9 +153,7 @@ module _ (g : Schema) (links : List ℕ) (unshared : sharesName g links ≡ fals
   names-differ i j h k e =
       order i j (λ l. not-earlier j i k l (sym e)) (λ l. equal i j (λ q. q) (λ n. not-earlier i j h (omega (arith, l, n)) e))
 
--- In an accepted file no two messages or enums have one full name. As items the messages come first, in flat order, then the enums.
-pub accepted-names-differ : (c : Call) (u : Used) → linked c .answer ≡ Accepted u → (i j : ℕ) → i < items (said c) → j < items (said c)
-    → fullName (said c) (linksOf (said c)) i ≡ fullName (said c) (linksOf (said c)) j → i ≡ j
+pub accepted-names-differ : (c : Call) → NamesDiffer c
 unfolding namingLines
 accepted-names-differ c u h =
     names-differ (said c) (linksOf (said c)) (none-given (namingGroup c) (all-passed c (accepted-verdict c h .0) .naming) .0)

@@ -24,6 +24,7 @@ use Rattle.image.specs.declared.verdict.Verdict.the-variants.{Passed}
 use Rattle.link.specs.Sight.{Sight, inSight, ownSays}
 use Rattle.link.specs.Search.{placeOr}
 use Rattle.link.specs.Field.{firstValue, valueIn, hasExtendee, extendeeTarget, extendeeLines, extendeePart, elementLines, fieldTarget, isRepeated, isMap, mapKey, mapValue, mapLines, mapPart, typeLines, typePart, isGiven, defaultRead, defaultRecord, namedDefault, defaultLines, defaultPart, fieldLines, fieldWords}
+use Rattle.link.specs.Lookup.{countOf}
 use Rattle.link.specs.Resolve.{targetFile, targetIndex, isMissing, isMessageType, target, typeTarget}
 use Rattle.link.specs.declared.building.Wanted.{Wanted}
 use Rattle.link.specs.declared.building.Wanted.the-variants.{Message, Enum}
@@ -33,7 +34,7 @@ use Rattle.link.proofs.TableLaws.{none-given}
 use Rattle.link.proofs.PhaseLaws.{both-passed}
 use Rattle.link.proofs.FileIndexLaws.{default-length, extendee-length, field-words}
 use Rattle.demands.proofs.DefaultFacts.{text-inside, name-of-enum}
-use Rattle.demands.proofs.TargetFacts.{countOf, Existing, Fitting, target-existing, type-fitting}
+use Rattle.demands.proofs.TargetFacts.{Existing, Fitting, target-existing, type-fitting}
 
 -- ---- files in sight
 

@@ -8,5 +8,9 @@ pub mod FitFacts
 pub mod FieldFacts
 pub mod ShelfTheorems
 pub mod MarkTheorems
-pub mod AuditTheorems
 pub mod WorkedLaws
+pub mod BeneathLaws
+pub mod LookupTheorems
+pub mod AuditTheorems
+pub mod FieldTheorems
+pub mod FoundTheorems

@@ -1,14 +1,15 @@
--- Demand 3, over the words that an accepted call writes: each message's mark is true. Assumes nothing.
-use mathlib.Core.Path.{_≡_, ap, _∙_}
+-- Demand 3, over the words that an accepted call writes: each message's mark is true, and so is what is read of it. Assumes nothing.
+use mathlib.Core.Path.{_≡_, refl, sym, ap, _∙_}
+use mathlib.Core.Logic.{_↔_}
 use mathlib.Core.List.{_++_}
 use Prim.Native.Nat.{ℕ, _+_, _<_, _≤_}
 use native.Mathlib.Omega.{arith}
 use lib.Dec.{eqb}
 use lib.ListN.{length, length-append, List·getD-append}
 use lib.Seq.{getD-append-add}
-use borrow.Author.Tests.{eq-eqb, ne-eqb}
+use borrow.Author.Tests.{eq-eqb, ne-eqb, eqb-true}
 use Rattle.lists.specs.Below.{bit}
-use Rattle.lists.proofs.Cases.{either}
+use Rattle.lists.proofs.Cases.{by, either}
 use Rattle.image.specs.Words.{wordAt}
 use Rattle.image.specs.Record.{messageLinkAt, endWords}
 use Rattle.image.specs.LinkTests.{noDistance}
@@ -18,13 +19,20 @@ use Rattle.link.specs.Chain.{Graph, Marked, Distance, noChain, distance}
 use Rattle.link.specs.Marks.{graphOf}
 use Rattle.link.specs.Refusals.{Call, said, seen, newFile}
 use Rattle.link.specs.Link.{linked}
-use Rattle.demands.specs.Demands.{graphOfCall, messageWrittenAt, alwaysWord, distanceWord, MarksTrue}
+use Rattle.link.specs.Audit.{markBy, readMark}
+use Rattle.link.specs.declared.audit.Mark.{Mark}
+use Rattle.link.specs.declared.audit.Mark.the-variants.{AlwaysInitialised, MayBeIncomplete}
+use Rattle.demands.specs.Demands.{graphOfCall, messageWrittenAt, alwaysWord, distanceWord, EachMarkTrue, EachMarkRead}
 use Rattle.link.specs.declared.link.Linked.the-variants.{Accepted}
 use Rattle.demands.proofs.ChainTheorems.{distance-or, marked-distance, distance-shortest}
 use Rattle.link.proofs.PhaseLaws.{all-links-length}
 use Rattle.demands.proofs.RowFacts.{always-word, distance-word}
-use Rattle.demands.proofs.Demands.{accepted-verdict, acceptance-words}
+use Rattle.demands.proofs.Demands.{accepted-verdict, acceptance-appends}
 use Rattle.demands.proofs.ShelfTheorems.{passed-sound}
+
+-- a mark is not both
+marks-differ : {C : Type 0} (a : Mark) {d : ℕ} → a ≡ MayBeIncomplete d → AlwaysInitialised ≡ a → C
+marks-differ a e f = let z : _≡_ {A = ℕ} 0 1 = cc in absurd (omega arith)
 
 -- ---- the two words of a mark, for a graph of few messages
 
@@ -54,6 +62,27 @@ module _ (g : Graph) (i : ℕ) (l : i < g .n) (few : g .n ≤ 256) {always far :
   pub not-zero : (always ≡ 0 → ⊥) → (always ≡ 1) × (far ≡ noDistance)
   not-zero n = either (distance-or g i) unmarked-words (λ h. absurd (n (marked-words h .0)))
 
+  -- ---- as a mark that is read
+
+  pub read-incomplete : (k : ℕ) → (markBy always far ≡ MayBeIncomplete k) ↔ Distance g i k
+  read-incomplete k = (
+    (λ t. by
+        (eqb always 0)
+        (λ e. let alike : MayBeIncomplete far ≡ MayBeIncomplete k = rw e at t in
+        let is : far ≡ k = cc in
+        rw is at (zero-shortest (eqb-true always 0 e)))
+        (λ e. marks-differ (MayBeIncomplete k) refl (rw e at t))),
+    (λ s. let z = marked-zero (k, s .chain) in
+        let is : far ≡ k = omega (arith, s .least far (zero-shortest z .chain), zero-shortest z .least k (s .chain)) in
+        rw (eq-eqb always 0 z, is)),
+  )
+
+  pub read-always : (markBy always far ≡ AlwaysInitialised) ↔ (Marked g i → ⊥)
+  read-always = (
+    (λ t m. let e = eq-eqb always 0 (marked-zero m) in marks-differ (MayBeIncomplete far) refl (sym (rw e at t))),
+    (λ free. by (eqb always 0) (λ e. absurd (free (zero-marked (eqb-true always 0 e)))) (λ e. rw e)),
+  )
+
 -- ---- where they stand
 
 module _ (c : Call) (u : Used) (h : linked c .answer ≡ Accepted u) where
@@ -62,7 +91,7 @@ module _ (c : Call) (u : Used) (h : linked c .answer ≡ Accepted u) where
   written-word k l =
       let links = newFile c .links in
       let end = endWords (newFile c) (c .used .words) (c .used .bytes) in
-      acceptance-words c u h .there (length (c .image) + k) (omega (arith, length-append (c .image) (links ++ end), length-append links end))
+      acceptance-appends c u h .words .there (length (c .image) + k) (omega (arith, length-append (c .image) (links ++ end), length-append links end))
       ∙ getD-append-add (c .image) (links ++ end) k 0
       ∙ List·getD-append links end 0 k l
 
@@ -83,8 +112,10 @@ module _ (c : Call) (u : Used) (h : linked c .answer ≡ Accepted u) where
     few-messages : said c .messages ≤ 256
     few-messages = passed-sound c (accepted-verdict c h .0) .few-messages
 
+-- ---- the theorems
+
 -- Each mark of an accepted file is true.
-pub marks-true : (c : Call) (u : Used) → linked c .answer ≡ Accepted u → (m : ℕ) → m < said c .messages → MarksTrue c m
+pub marks-true : (c : Call) → EachMarkTrue c
 unfolding graphOf
 marks-true c u h m l =
     let g = graphOfCall c in
@@ -97,3 +128,13 @@ marks-true c u h m l =
       below = zero-few g m l few a d;
       unmarked = not-zero g m l few a d;
     }
+
+-- And each is read as it is.
+pub marks-read : (c : Call) → EachMarkRead c
+unfolding graphOf readMark
+marks-read c u h m l =
+    let g = graphOfCall c in
+    let few = few-messages c u h m l in
+    let a = always-word (seen c) (searched (seen c)) m l in
+    let d = distance-word (seen c) (searched (seen c)) m l in
+    record { incomplete = read-incomplete g m l few a d; always = read-always g m l few a d }

@@ -21,17 +21,18 @@ use Rattle.image.specs.declared.verdict.Verdict.the-variants.{Passed}
 use Rattle.image.proofs.ObeyLaws.{Opened}
 use Rattle.image.proofs.AppendLaws.{files-with, still-well-formed}
 use Rattle.link.specs.Search.{searched}
+use Rattle.link.specs.Given.{NoneGiven}
 use Rattle.link.specs.Refusals.{Call, said, shelvedFiles, seen, nameLines, newFile, lengthLines, shelfLines, table}
 use Rattle.link.specs.Link.{linked}
 use Rattle.link.specs.Phases.{callOf, fromOpening}
 use Rattle.link.specs.declared.link.Linked.the-variants.{Accepted}
-use Rattle.link.proofs.TableLaws.{nameGroup, namingGroup, AllPassed, all-passed, NoneGiven, none-given, given-none, shelf-pass}
+use Rattle.link.proofs.TableLaws.{nameGroup, namingGroup, AllPassed, all-passed, none-given, given-none, shelf-pass}
 use Rattle.link.proofs.ShelfFacts.{opened-full, imports-found}
 use Rattle.link.proofs.PhaseLaws.{both-passed, all-opened, all-sound, all-files, all-links-length}
 use Rattle.demands.proofs.DefaultFacts.{default-within}
 use Rattle.demands.proofs.RowFacts.{messages-given, others-given, marks-fit, enum-row-kept}
 use Rattle.demands.proofs.FieldFacts.{clash-free, fields-fit}
-use Rattle.demands.proofs.Demands.{accepted-verdict, acceptance-appends, accepted-fits}
+use Rattle.demands.proofs.Demands.{accepted-verdict, accepted-outcome, accepted-fits}
 
 -- ---- the refusals and rule 2 meet: a file that draws none is in order behind the shelved files
 
@@ -85,7 +86,7 @@ module _ (c : Call) (passed : first (table c) ≡ Passed) where
       all-of (linkTests (shelvedFiles c ++ (newFile c ∷ [])) (newFile c))
       (messages-given s list, (others-given s list ok, (marks-fit s list ok, (fields-fit s list ok (groups .fields) (default-within (c .image) (c .pool) laid) (enum-row-kept s list ok), tt))))
 
-  file-fits : fileFits (shelvedFiles c) (newFile c) ≡ true
+  pub file-fits : fileFits (shelvedFiles c) (newFile c) ≡ true
   unfolding fileFits
   file-fits = all-of (shelvedTests (shelvedFiles c) (newFile c)) (image-obeys, (name-fresh, (imports-named, (links-fit, tt))))
 
@@ -101,7 +102,7 @@ module _ (c : Call) (passed : first (table c) ≡ Passed) where
 pub accepted-well-formed : (c : Call) (u : Used) → linked c .answer ≡ Accepted u → wellFormed (linked c .words) (linked c .bytes) u ≡ true
 accepted-well-formed c u h =
     let passed = accepted-verdict c h .0 in
-    let new = acceptance-appends c u h in
+    let new = accepted-outcome c u h in
     let room = accepted-fits c u h in
     rw (new .0, new .1, new .2)
     (still-well-formed (c .words) (c .bytes) (c .used) (newFile c) (rows-counted c passed) (was-formed c passed) (room .0) (room .1) (few-files c passed) (file-fits c passed))
@@ -111,7 +112,7 @@ pub accepted-files : (c : Call) (u : Used) → linked c .answer ≡ Accepted u
     → filesOf (u .files) (usedPart (linked c .words) (linked c .bytes) u) ≡ shelvedFiles c ++ (newFile c ∷ [])
 accepted-files c u h =
     let passed = accepted-verdict c h .0 in
-    let new = acceptance-appends c u h in
+    let new = accepted-outcome c u h in
     let room = accepted-fits c u h in
     rw (new .0, new .1, new .2)
     (files-with (c .words) (c .bytes) (c .used) (newFile c) (rows-counted c passed) (was-formed c passed) (room .0) (room .1))

@@ -18,6 +18,7 @@ use Rattle.image.specs.declared.rows.Flat.{Flat}
 use Rattle.image.specs.declared.full_name.FlatFound.{FlatFound}
 use Rattle.image.specs.declared.full_name.FlatFound.the-variants as flat
 use Rattle.link.specs.Sight.{Sight, inSight}
+use Rattle.link.specs.Lookup.{countOf}
 use Rattle.link.specs.Resolve.{byPath, itemIn, foundOr, firstIn, order, target, isMessageType, typeTarget}
 use Rattle.link.specs.declared.building.Wanted.{Wanted}
 use Rattle.link.specs.declared.building.Wanted.the-variants.{Message, Enum}
@@ -34,11 +35,6 @@ FlatBelow n flat.Nothing = Unit
 flat-below : (n : ℕ) (p : ℕ → Bool) → FlatBelow n (firstFlat n p)
 unfolding firstFlat
 flat-below n p = by (ltb (firstBelow n p n) n) (λ t. rw t (ltb-true (firstBelow n p n) n t)) (λ t. rw t tt)
-
--- how many messages, or enums, a file has
-abbrev pub countOf : Wanted → Schema → ℕ
-countOf Message g = g .messages
-countOf Enum g = g .enums
 
 path-below : (wanted : Wanted) (g : Schema) (links path : List ℕ) → FlatBelow (countOf wanted g) (byPath wanted g links path)
 unfolding messageByPath enumByPath

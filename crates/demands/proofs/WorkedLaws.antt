@@ -1,5 +1,5 @@
 -- The whole case and the worked table hold: both sides of each row compute to the same. Assumes nothing.
-use mathlib.Core.Path.{_≡_, refl}
+use mathlib.Core.Path.{refl}
 use lib.Dec.{leb·zero}
 use lib.ListN.{length}
 use borrow.Author.Tests.{le-leb}
@@ -14,13 +14,14 @@ use Rattle.image.specs.Schema.{schemaOf}
 use Rattle.image.specs.Layout.{trailerFits, follows, sectionsFollow, fileRangesFit, frameFits, rowsFit, allRowsFit, ownedOnce, parentsLower, allOwned, laidOut, laidOutWithinLimit}
 use Rattle.image.specs.Limits.{countsWithin, typeNameShort, defaultShort, rowTextsShort, kindTextsShort, textsShort, withinLimits}
 use Rattle.image.specs.Texts.{typeNameRight, extendeeRight, defaultRight, rowTextsRight, kindTextsRight, textsRight}
-use Rattle.image.specs.Flat.{preorder, flatMessages, within}
+use Rattle.image.specs.Flat.{preorder, flatMessages, flatFields, within}
 use Rattle.image.specs.Links.{linksOf}
 use Rattle.image.specs.FullName.{fullName, fullNamesShort, sharesName}
 use Rattle.image.specs.Lookup.{messageByPath, enumByPath}
 use Rattle.image.specs.MapEntry.{entryLines}
 use Rattle.image.specs.Values.{valueByNumber, valueByName}
-use Rattle.image.specs.LinkTests.{fileBy, messagesGiven, othersGiven, marksFit, fieldLinksFit, linksFit}
+use Rattle.image.specs.Record.{containers}
+use Rattle.image.specs.LinkTests.{fileBy, messagesGiven, othersGiven, markFits, marksFit, extendeeFits, targetFits, valueFits, defaultFits, fieldLinkFits, fieldLinksFit, linksFit}
 use Rattle.image.specs.Shelf.{recordFits, clashFree, imageObeys, fileNamed, importsNamed, fileFits, filesOf, shelved, wellFormed}
 use Rattle.image.specs.Judge.{openingLines, namingLines}
 use Rattle.link.specs.Search.{publicsTo, searched}
@@ -31,6 +32,7 @@ use Rattle.link.specs.Chain.{distance}
 use Rattle.link.specs.Rows.{fieldLinks, allLinks}
 use Rattle.link.specs.Refusals.{wordLimit, byteLimit, lengthLines, shelfLines, nameLines, importLines, allFieldLines, roomLines, table}
 use Rattle.link.specs.Link.{linked}
+use Rattle.link.specs.Lookup.{valueNumbered, valueNamed, shelfVerdict, wayTo, lookedUp}
 use Rattle.demands.specs.Worked.{WholeCase, WholeByRows, WorkedTable}
 
 -- ---- what the rows compute with. To unfold one of these is to unfold all that its line names
@@ -52,11 +54,15 @@ unfolding typeNameRight extendeeRight defaultRight rowTextsRight kindTextsRight 
 byte-rules = tt
 
 flat-order : Unit {0}
-unfolding total span preorder flatMessages within linksOf fullName fullNamesShort sharesName messageByPath enumByPath entryLines
+unfolding total span preorder flatMessages flatFields within linksOf fullName fullNamesShort sharesName messageByPath enumByPath entryLines
 flat-order = tt
 
+link-words : Unit {0}
+unfolding fileBy containers messagesGiven othersGiven markFits marksFit extendeeFits targetFits valueFits defaultFits fieldLinkFits fieldLinksFit linksFit
+link-words = tt
+
 shelf : Unit {0}
-unfolding fileBy messagesGiven othersGiven marksFit fieldLinksFit linksFit recordFits clashFree imageObeys fileNamed importsNamed fileFits filesOf shelved wellFormed
+unfolding recordFits clashFree imageObeys fileNamed importsNamed fileFits filesOf shelved wellFormed
 shelf = tt
 
 fields : Unit {0}
@@ -71,8 +77,12 @@ refusals : Unit {0}
 unfolding openingLines namingLines lengthLines shelfLines nameLines importLines allFieldLines roomLines table splice linked
 refusals = tt
 
+lookups : Unit {0}
+unfolding valueByNumber valueByName valueNumbered valueNamed shelfVerdict wayTo lookedUp
+lookups = tt
+
 computed : Unit {0}
-unfolding texts layout limits byte-rules flat-order shelf fields marks refusals
+unfolding texts layout limits byte-rules flat-order link-words shelf fields marks refusals lookups
 computed = tt
 
 -- ---- the theorems
@@ -93,5 +103,5 @@ pub whole-by-rows : WholeByRows
 whole-by-rows = refl
 
 pub worked-table : WorkedTable
-unfolding computed valueByNumber valueByName
-worked-table = (name-rows, (refl, refl, refl, refl, refl), (refl, refl), (refl, refl, refl, refl, refl, refl))
+unfolding computed
+worked-table = (name-rows, (refl, refl, refl, refl, refl, refl), (refl, refl), (refl, refl, refl, refl, refl, refl))

@@ -6,20 +6,19 @@ use mathlib.Core.List.{List, [], _∷_, _++_, map}
 use lib.ListN.{length, getD, drop, replicate}
 use Rattle.lists.specs.Lists.{part}
 use Rattle.names.specs.Worked.{NameRows}
-use Rattle.image.specs.Links.{enumRow}
 use Rattle.image.specs.Record.{File, FieldLink, noFile, says, messageLinkAt, fieldLinkAt, fieldLinkWidth, linkRow, fieldLinkOf}
 use Rattle.image.specs.LinkTests.{markAt}
 use Rattle.image.specs.Shelf.{usedPart, lastFile}
-use Rattle.image.specs.Values.{valueByNumber, valueByName}
-use Rattle.image.specs.declared.rows.Found.{Found}
-use Rattle.image.specs.declared.rows.Found.the-variants.{At}
 use Rattle.image.specs.declared.shelf.Used.{Used}
 use Rattle.link.specs.Search.{searched}
 use Rattle.link.specs.Refusals.{Call, shelvedFiles, seen, wordLimit, byteLimit}
-use Rattle.link.specs.Link.{answerNumber, answerUsed, linked}
+use Rattle.link.specs.Link.{answerNumber, linked}
+use Rattle.link.specs.Lookup.{valueNumbered, valueNamed, lookedUp}
 use Rattle.link.specs.Phases.{callOf}
+use Rattle.demands.specs.Demands.{usedAfter, shelfAfter}
 use Rattle.demands.specs.WorkedFiles.{Source, imageOf, wholeFile, valueFile, chainFile, selfFile, fileP, fileQ, fileR, fileS, importFile, A, p, q, r, s}
 use Rattle.link.specs.declared.link.Linked.the-variants.{Accepted}
+use Rattle.link.specs.declared.lookup.Looked.the-variants.{Found}
 
 abbrev nothingUsed : Used
 nothingUsed = record { words = 0; bytes = 0; files = 0 }
@@ -66,10 +65,6 @@ WholeByRows = imageOf wholeFile ≡ wholeImage
 abbrev firstCall : Source → Call
 firstCall file = callOf (replicate 200 0) (replicate 16 0) nothingUsed (imageOf file) (file .pool)
 
--- the three numbers that a call leaves
-abbrev usedAfter : Call → Used
-usedAfter c = answerUsed (c .used) (linked c .answer)
-
 -- onto the shelf that an earlier call left
 abbrev nextCall : Call → Source → Call
 nextCall c file = callOf (linked c .words) (linked c .bytes) (usedAfter c) (imageOf file) (file .pool)
@@ -86,13 +81,6 @@ shelvedBy c = lastFile (usedPart (linked c .words) (linked c .bytes) (usedAfter 
 abbrev valueCall : Call
 valueCall = firstCall valueFile
 
--- the place of a value in a file's first enum, by number and by name
-abbrev placeByNumber : File → ℕ → Found
-placeByNumber file number = valueByNumber (says file) (enumRow (says file) (file .links) 0) number
-
-abbrev placeByName : File → List ℕ → Found
-placeByName file name = valueByName (says file) (enumRow (says file) (file .links) 0) name
-
 -- the link row of a file's first field
 abbrev firstLink : File → FieldLink
 firstLink file = fieldLinkOf (linkRow (file .links) (fieldLinkAt (says file) 0) fieldLinkWidth)
@@ -101,12 +89,13 @@ abbrev pub ValueRows : Type 0
 ValueRows =
     IsAccepted valueCall
     -- number 1 finds 2
-    × (placeByNumber (shelvedBy valueCall) 1 ≡ At 2)
+    × (lookedUp (shelfAfter valueCall) 0 (λ x. valueNumbered x 0 1) ≡ Found 2)
     -- name A finds 2
-    × (placeByName (shelvedBy valueCall) A ≡ At 2)
+    × (lookedUp (shelfAfter valueCall) 0 (λ x. valueNamed x 0 A) ≡ Found 2)
     -- default A is 0; default kind 4 is an enum
     × (firstLink (shelvedBy valueCall) .defaultKind ≡ 4)
     × (firstLink (shelvedBy valueCall) .low ≡ 0)
+    × (firstLink (shelvedBy valueCall) .high ≡ 0)
 
 -- ---- imports p, q where p publicly imports r, s
 

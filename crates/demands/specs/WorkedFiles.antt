@@ -7,8 +7,8 @@ use Rattle.names.specs.Types.{typeNumber}
 use Rattle.names.specs.declared.runtime_type_box.FieldType.{FieldType}
 use Rattle.names.specs.declared.runtime_type_box.FieldType.the-variants.{Int32, Message, Enum}
 
--- a file: its pool, which its name begins, its syntax, and its rows, each a list of words. It has no package, no oneofs and no extensions,
--- and all its messages and enums are at top level
+-- a file: its pool, whose first byte is the file's name, its syntax, and its rows, each a list of words. It has no package, no oneofs and
+-- no extensions, and all its messages and enums are at top level
 pub record Source : Type 0 where
   pub pool : List ℕ
   pub syntax : ℕ

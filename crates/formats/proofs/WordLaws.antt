@@ -1,17 +1,16 @@
 -- Laws of words in bytes: their lengths, and the turns of the loops that read and write them. Assumes nothing.
-use mathlib.Core.Path.{_≡_, refl, sym, _∙_}
-use mathlib.Core.List.{List, [], _∷_, _++_, append-assoc, append-nil}
-use Prim.Native.Nat.{ℕ, _+_, _-_, _*_, _≤_, _<_}
+use mathlib.Core.Path.{_≡_, refl, _∙_}
+use mathlib.Core.List.{List, [], _∷_, _++_, append-nil}
+use Prim.Native.Nat.{ℕ, _+_, _*_, _≤_, _<_}
 use native.Mathlib.Nat.{zero-add}
 use native.Mathlib.Numerals.{add-one}
 use native.Mathlib.Omega.{arith}
-use lib.ListN.{length, getD, take, drop, set, length-append, length-drop, drop-of-length-le}
-use lib.Seq.{take-suc, drop-drop, length-take-le}
-use Rattle.lists.specs.Lists.{concatMap, part}
-use Rattle.lists.specs.Splice.{splice, fronted}
-use Rattle.lists.proofs.ListLaws.{part-all}
+use lib.ListN.{length, getD, take, set, length-append}
+use lib.Seq.{take-suc, length-take-le}
+use Rattle.lists.specs.Lists.{concatMap}
+use Rattle.lists.specs.Splice.{splice}
 use Rattle.lists.proofs.SpanLaws.{concat-append}
-use Rattle.lists.proofs.SpliceLaws.{splice-more, splice-splice, fronted-fits}
+use Rattle.lists.proofs.SpliceLaws.{splice-more, splice-splice}
 use Rattle.lists.proofs.TableLaws.{length-table, getD-table}
 use Rattle.formats.specs.Words.{le32, inBytes, wordAt, wordsAt}
 
@@ -42,16 +41,7 @@ read-more ws s at n i h l =
     let e = length-words s at n in
     rw (← getD-words s at n i h) (rw zero-add at (splice-more ws 0 (wordsAt s at n) i 0 (omega arith) (omega arith)))
 
--- ---- bytes written to the front of a part, and words one by one
-
-pub put-part : (out src : List ℕ) (at : ℕ) → at + length src ≤ length out
-    → take at out ++ (fronted (part at (length out - at) out) src ++ drop (length out - at) (drop at out)) ≡ splice out at src
-unfolding splice
-put-part out src at h =
-    let fits : length src ≤ length (drop at out) = simp length-drop (omega arith) in
-    let none : drop (length out - at) (drop at out) ≡ [] = drop-of-length-le (drop at out) {i = length out - at} (simp length-drop (omega arith)) in
-    rw (none, part-all out at, fronted-fits (drop at out) src fits, append-nil, zero-add, drop-drop)
-    (sym (append-assoc (take at out) src (drop (at + length src) out)))
+-- ---- words written one by one
 
 in-bytes-more : (ws : List ℕ) (i : ℕ) → i < length ws → inBytes (take (i + 1) ws) ≡ inBytes (take i ws) ++ le32 (getD ws i 0)
 unfolding concatMap

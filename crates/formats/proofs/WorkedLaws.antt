@@ -1,4 +1,4 @@
--- 01's whole case as files: both sides compute to the same bytes. Assumes nothing.
+-- The files of the whole case: both sides compute to the same bytes. Assumes nothing.
 use mathlib.Core.Path.{refl}
 use Rattle.lists.specs.Lists.{concatMap}
 use Rattle.formats.specs.Words.{le32}

@@ -1,4 +1,4 @@
--- 01's whole case as files: the image of one empty message, and the shelf that linking it leaves. Assumes nothing.
+-- The files of the whole case: its image, of one empty message, and its shelf, of one record. Assumes nothing.
 use mathlib.Core.Path.{_≡_}
 use mathlib.Core.List.{List, [], _∷_, _++_}
 use Prim.Native.Nat.{ℕ}

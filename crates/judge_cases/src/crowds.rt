@@ -2,7 +2,6 @@
 // bytes `a`; what keeps to the limits may then break a later rule, 5 or 8.
 use crate::answers;
 use crate::say;
-use crate::tokens;
 
 // How many rows of each kind there are. The file owns enums and fields, its first message the oneofs, the first enum the values.
 struct Crowd {

@@ -3,51 +3,9 @@ use crate::answers;
 use crate::answers::Answer;
 use crate::say;
 use crate::shelves;
-use crate::tokens;
-use crate::tokens::Token;
+use image::links as link_rows;
 use image::rows;
-
-pub fn set_word(words: &mut [u32], at: usize, word: u32) {
-    if at < words.len() {
-        words[at] = word;
-    }
-}
-
-pub fn set_byte(bytes: &mut [u8], at: usize, byte: u8) {
-    if at < bytes.len() {
-        bytes[at] = byte;
-    }
-}
-
-// Reads n words from the token behind `at` on; the answer is where they end.
-pub fn read_words(text: &[u8], at: usize, words: &mut [u32], n: usize) -> usize {
-    let mut end = at;
-    let mut i = 0;
-    while i < n {
-        let t = tokens::next(text, end);
-        set_word(words, i, tokens::number(text, t));
-        end = t.end;
-        i += 1;
-    }
-    end
-}
-
-// Reads n bytes of a pool.
-pub fn read_bytes(text: &[u8], at: usize, bytes: &mut [u8], n: usize) -> usize {
-    let mut end = at;
-    let mut i = 0;
-    while i < n {
-        let t = tokens::next(text, end);
-        set_byte(bytes, i, low_byte(tokens::number(text, t)));
-        end = t.end;
-        i += 1;
-    }
-    end
-}
-
-pub fn low_byte(n: u32) -> u8 {
-    (n % 256) as u8
-}
+use tokens::Token;
 
 // Whether a refusal is one of those that are judged here.
 fn is_judged(number: u32) -> bool {
@@ -118,12 +76,6 @@ fn say_links(links: &[u32], n: usize) {
     }
 }
 
-// How many words the link rows of messages, enums and oneofs have.
-fn link_words(image: &[u32]) -> usize {
-    let s = rows::read_sections(image);
-    s.messages.count as usize * 10 + s.enums.count as usize * 2 + s.oneofs.count as usize * 4
-}
-
 // Judges a file and says what was answered, and whether its case says something else.
 fn judge(text: &[u8], t: Token, image: &[u32], pool: &[u8]) {
     let mut links = [0u32; 4096];
@@ -132,7 +84,8 @@ fn judge(text: &[u8], t: Token, image: &[u32], pool: &[u8]) {
     answers::say(a);
     if a.number == 0 {
         say::text(b":");
-        say_links(&links, link_words(image));
+        let n = link_rows::link_words(rows::read_sections(image));
+        say_links(&links, n);
     }
     if is_unexpected(text, t, a) {
         say::text(b" (the case says otherwise)");
@@ -157,8 +110,8 @@ fn read_file(text: &[u8], at: usize) -> usize {
         say::text(b"  not read: a pool longer than 32,768 bytes\n");
         return expect.end;
     }
-    let middle = read_words(text, behind_expected(text, expect), &mut image, w);
-    let end = read_bytes(text, middle, &mut pool, b);
+    let middle = tokens::read_words(text, behind_expected(text, expect), &mut image, w);
+    let end = tokens::read_bytes(text, middle, &mut pool, b);
     judge(
         text,
         expect,

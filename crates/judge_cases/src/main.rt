@@ -6,7 +6,6 @@ mod crowds;
 mod files;
 mod say;
 mod shelves;
-mod tokens;
 
 fn main() {
     let mut text = io::large_buffer();

@@ -5,13 +5,11 @@
 // and behind it changes of it, each of which is made, asked about and taken back:
 //
 //     "word" NAME PLACE VALUE | "byte" NAME PLACE VALUE | "used" NAME WORDS BYTES FILES
-use crate::files;
 use crate::say;
-use crate::tokens;
-use crate::tokens::Token;
 use image::rows;
 use image::shelf::Used;
 use image::well_formed;
+use tokens::Token;
 
 // Asks and says what was answered.
 fn judge(text: &[u8], name: Token, words: &[u32], bytes: &[u8], used: Used) {
@@ -30,9 +28,9 @@ fn with_word(text: &[u8], name: Token, words: &mut [u32], bytes: &[u8], used: Us
     let value = tokens::next(text, place.end);
     let at = tokens::number(text, place) as usize;
     let was = rows::word_at(words, at);
-    files::set_word(words, at, tokens::number(text, value));
+    tokens::set_word(words, at, tokens::number(text, value));
     judge(text, name, words, bytes, used);
-    files::set_word(words, at, was);
+    tokens::set_word(words, at, was);
     value.end
 }
 
@@ -42,9 +40,9 @@ fn with_byte(text: &[u8], name: Token, words: &[u32], bytes: &mut [u8], used: Us
     let value = tokens::next(text, place.end);
     let at = tokens::number(text, place) as usize;
     let was = byte_at(bytes, at);
-    files::set_byte(bytes, at, files::low_byte(tokens::number(text, value)));
+    tokens::set_byte(bytes, at, tokens::low_byte(tokens::number(text, value)));
     judge(text, name, words, bytes, used);
-    files::set_byte(bytes, at, was);
+    tokens::set_byte(bytes, at, was);
     value.end
 }
 
@@ -111,8 +109,8 @@ pub fn read_shelf(text: &[u8], at: usize) -> usize {
         bytes: tokens::number(text, b),
         files: tokens::number(text, count),
     };
-    let middle = files::read_words(text, b.end, &mut words, used.words as usize);
-    let end = files::read_bytes(text, middle, &mut bytes, used.bytes as usize);
+    let middle = tokens::read_words(text, b.end, &mut words, used.words as usize);
+    let end = tokens::read_bytes(text, middle, &mut bytes, used.bytes as usize);
     judge(text, name, &words, &bytes, used);
     changes(text, end, &mut words, &mut bytes, used)
 }

@@ -17,9 +17,9 @@ use Rattle.image.specs.declared.rows.Sections.{Sections}
 use Rattle.image.proofs.SchemaLaws.{messages-in}
 use Rattle.image.proofs.FileLaws.{says-by, fields-by, field-link-by}
 use Rattle.link.specs.Field.{fieldIn}
-use Rattle.link.specs.Audit.{saysAlone, markBy, markOf, byLabel, byShape, shapeAt, carriedAt, carriedUnder}
+use Rattle.link.specs.Audit.{saysAlone, markBy, readMark, byLabel, shapeAt, carriedAt, carriedUnder}
 use Rattle.link.specs.declared.audit.Mark.the-variants.{AlwaysInitialised, MayBeIncomplete}
-use Rattle.link.specs.declared.audit.Carried.the-variants.{Nothing, Map}
+use Rattle.link.specs.declared.audit.Carried.the-variants.{Nothing}
 
 -- ---- an image without its pool
 
@@ -37,14 +37,14 @@ module _ (links : List ℕ) (m : ℕ) {row : List ℕ} (e : row ≡ linkRow link
   pub row-word : (k : ℕ) → k < 10 → getD row k 0 ≡ wordAt links (m * 10 + k)
   row-word k h = ap (λ (x : List ℕ). getD x k 0) e ∙ getD-table 10 (λ j. wordAt links (m * 10 + j)) k 0 h
 
-  marked : markBy (getD row 8 0) (getD row 9 0) ≡ markOf links m
-  unfolding markOf
+  marked : markBy (getD row 8 0) (getD row 9 0) ≡ readMark links m
+  unfolding readMark
   marked = rw (row-word 8 (omega arith), row-word 9 (omega arith))
 
-  pub mark-open : getD row 8 0 ≡ 0 → MayBeIncomplete (getD row 9 0) ≡ markOf links m
+  pub mark-open : getD row 8 0 ≡ 0 → MayBeIncomplete (getD row 9 0) ≡ readMark links m
   mark-open z = rw (eq-eqb (getD row 8 0) 0 z) at marked
 
-  pub mark-shut : (getD row 8 0 ≡ 0 → ⊥) → AlwaysInitialised ≡ markOf links m
+  pub mark-shut : (getD row 8 0 ≡ 0 → ⊥) → AlwaysInitialised ≡ readMark links m
   mark-shut z = rw (ne-eqb (getD row 8 0) 0 z) at marked
 
 -- ---- a file, as the code reads it
@@ -77,14 +77,9 @@ module _ (file : File) {s : Sections} (q : s ≡ sectionsOf (file .image)) where
     under-found h t p = rw (lt-ltb m (says file .messages) (omega (arith, count)), p, said, t)
 
 -- the field at place j of message m
-module _ (file : File) (m j : ℕ) (words : List ℕ) {row : List ℕ} {shape : ℕ} (e : row ≡ linkRow (file .links) (messageLinkAt m) 10) (t : shape ≡ shapeAt file (getD row 4 0 + j)) (f : fieldOf words (file .pool) ≡ fieldIn file m j) where
-  shaped : byShape shape (fieldOf words (file .pool)) ≡ carriedAt file m (found.At j)
-  shaped =
-      ap (λ (x : FieldSays). byShape shape x) f
-      ∙ ap (λ (x : ℕ). byShape x (fieldIn file m j)) (t ∙ ap (λ (x : ℕ). shapeAt file (x + j)) (row-word (file .links) m e 4 (omega arith)))
-
-  pub at-map : shape ≡ 2 → Map (getD words 2 0) ≡ carriedAt file m (found.At j)
-  at-map h = rw (eq-eqb shape 2 h) at shaped
-
-  pub at-other : (shape ≡ 2 → ⊥) → byLabel (getD words 3 0) (getD words 2 0) ≡ carriedAt file m (found.At j)
-  at-other h = rw (ne-eqb shape 2 h) at shaped
+pub at-field : (file : File) (m j : ℕ) (words : List ℕ) {row : List ℕ} {shape : ℕ} → row ≡ linkRow (file .links) (messageLinkAt m) 10
+    → shape ≡ shapeAt file (getD row 4 0 + j) → fieldOf words (file .pool) ≡ fieldIn file m j
+    → byLabel (getD words 3 0) shape (getD words 2 0) ≡ carriedAt file m (found.At j)
+at-field file m j words {row} {shape} e t f =
+    ap (λ (x : FieldSays). byLabel (x .label) shape (x .number)) f
+    ∙ ap (λ (x : ℕ). byLabel (fieldIn file m j .label) x (fieldIn file m j .number)) (t ∙ ap (λ (x : ℕ). shapeAt file (x + j)) (row-word (file .links) m e 4 (omega arith)))

@@ -1,4 +1,3 @@
-pub mod PutLaws
 pub mod VisitLaws
 pub mod PushLaws
 pub mod RunLaws
@@ -21,3 +20,6 @@ pub mod ShelfFacts
 pub mod RecordLaws
 pub mod PhaseLaws
 pub mod AuditLaws
+pub mod FileLookupLaws
+pub mod GivenLaws
+pub mod LookupLaws

@@ -1,7 +1,7 @@
 -- Laws of the table: its groups one after the other, a phase that stopped or passed, and when a line is the one that decides. Assumes nothing.
 use mathlib.Core.Path.{_≡_, refl, sym, ap, _∙_}
-use mathlib.Core.Logic.{_⊎_, inl, inr}
-use mathlib.Core.Bool.{true, false}
+use mathlib.Core.Logic.{inl, inr}
+use mathlib.Core.Bool.{true}
 use mathlib.Core.List.{List, [], _∷_, _++_}
 use Prim.Native.Nat.{ℕ}
 use native.Mathlib.Omega.{arith}
@@ -18,6 +18,7 @@ use Rattle.image.specs.declared.verdict.Verdict.{Verdict}
 use Rattle.image.specs.declared.verdict.Verdict.the-variants.{Passed, Stopped}
 use Rattle.image.proofs.VerdictLaws.{andThen, first-append}
 use Rattle.link.specs.Search.{searched}
+use Rattle.link.specs.Given.{Given, NoneGiven}
 use Rattle.link.specs.Refusals.{Call, said, shelvedFiles, seen, lengthTests, roomTests, lengthLines, shelfLines, nameLines, importLines, allFieldLines, roomLines, table}
 
 -- ---- phases
@@ -99,16 +100,6 @@ all-passed c h =
     record { lengths = l .0; shelf = s .0; opening = o .0; name = n .0; imports = i .0; naming = m .0; fields = f .0; room = f .1 }
 
 -- ---- exactly if, over any list of lines
-
--- a line with this refusal and place is given, and none before it
-abbrev pub Given : List Line → Refusal → ℕ → Type 0
-Given [] r p = ⊥
-Given (l ∷ ls) r p = ((l .given ≡ true) × (l .refusal ≡ r) × (l .place ≡ p)) ⊎ ((l .given ≡ false) × Given ls r p)
-
--- no line is given
-abbrev pub NoneGiven : List Line → Type 0
-NoneGiven [] = Unit
-NoneGiven (l ∷ ls) = (l .given ≡ false) × NoneGiven ls
 
 pub none-given : (ls : List Line) → first ls ≡ Passed → NoneGiven ls
 unfolding first

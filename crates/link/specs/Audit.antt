@@ -5,7 +5,7 @@ use mathlib.Core.Bool.{Bool, cond, not, _&&_, _||_}
 use Prim.Native.Nat.{ℕ, _+_}
 use lib.Dec.{eqb, ltb}
 use Rattle.image.specs.Words.{wordAt}
-use Rattle.image.specs.Schema.{Schema, FieldSays, schemaOf}
+use Rattle.image.specs.Schema.{Schema, schemaOf}
 use Rattle.image.specs.Links.{messageRow}
 use Rattle.image.specs.Clash.{fieldByName}
 use Rattle.image.specs.Record.{File, says, fieldLinkWidth, linkRow, messageLinkAt, fieldLinkAt, fieldLinkOf}
@@ -13,6 +13,7 @@ use Rattle.image.specs.LinkTests.{markAt, noDistance}
 use Rattle.image.specs.declared.rows.Found.{Found}
 use Rattle.image.specs.declared.rows.Found.the-variants as found
 use Rattle.link.specs.Field.{fieldIn}
+use Rattle.link.specs.Lookup.{firstFieldWord}
 use Rattle.link.specs.declared.audit.Mark.{Mark}
 use Rattle.link.specs.declared.audit.Mark.the-variants.{AlwaysInitialised, MayBeIncomplete}
 use Rattle.link.specs.declared.audit.Carried.{Carried}
@@ -25,21 +26,21 @@ saysAlone image = schemaOf image []
 -- ---- marks
 
 -- the two words of each mark, as a record has them: always initialised, and distance
-abbrev pub alwaysWord : Mark → ℕ
-alwaysWord AlwaysInitialised = 1
-alwaysWord (MayBeIncomplete distance) = 0
+abbrev pub alwaysOf : Mark → ℕ
+alwaysOf AlwaysInitialised = 1
+alwaysOf (MayBeIncomplete distance) = 0
 
-abbrev pub distanceWord : Mark → ℕ
-distanceWord AlwaysInitialised = noDistance
-distanceWord (MayBeIncomplete distance) = distance
+abbrev pub distanceOf : Mark → ℕ
+distanceOf AlwaysInitialised = noDistance
+distanceOf (MayBeIncomplete distance) = distance
 
 -- the mark that two words say: the first decides
 abbrev pub markBy : ℕ → ℕ → Mark
-markBy always distance = cond (eqb always (alwaysWord (MayBeIncomplete distance))) (MayBeIncomplete distance) AlwaysInitialised
+markBy always distance = cond (eqb always (alwaysOf (MayBeIncomplete distance))) (MayBeIncomplete distance) AlwaysInitialised
 
--- the mark of flat message m, off its link row. Words past the end read 0: without a row it may be incomplete, at distance 0
-unfoldable pub markOf : List ℕ → ℕ → Mark
-markOf links m = markBy (wordAt links (messageLinkAt m + markAt)) (wordAt links (messageLinkAt m + (markAt + 1)))
+-- the mark of flat message m, off its link row. An m that is not below the file's messages reads whatever words stand there, 0 past the end
+unfoldable pub readMark : List ℕ → ℕ → Mark
+readMark links m = markBy (wordAt links (messageLinkAt m + markAt)) (wordAt links (messageLinkAt m + (markAt + 1)))
 
 -- ---- what a message carries: the numbers of each case
 
@@ -51,7 +52,15 @@ labelOf (Required number) = 2
 labelOf (Repeated number) = 3
 labelOf (Map number) = 3
 
--- the field's number, 0 where nothing is carried
+-- its shape, as link rows number them: 0 singular, 1 repeated, 2 map
+abbrev pub shapeOf : Carried → ℕ
+shapeOf Nothing = 0
+shapeOf (Optional number) = 0
+shapeOf (Required number) = 0
+shapeOf (Repeated number) = 1
+shapeOf (Map number) = 2
+
+-- the field's number, the word that its image has, which is two's complement; 0 where nothing is carried
 abbrev pub numberOf : Carried → ℕ
 numberOf Nothing = 0
 numberOf (Optional number) = number
@@ -61,26 +70,23 @@ numberOf (Map number) = number
 
 -- ---- what a message carries under an own name
 
--- a field that is no map, by its label. An image that obeys rule 3 has labels 1 to 3; any other is taken for optional
-abbrev pub byLabel : ℕ → ℕ → Carried
-byLabel label number =
-    cond (eqb label (labelOf (Required number))) (Required number) (cond (eqb label (labelOf (Repeated number))) (Repeated number) (Optional number))
+-- a repeated field by the shape in its link row
+abbrev pub byShape : ℕ → ℕ → Carried
+byShape shape number = cond (eqb shape (shapeOf (Map number))) (Map number) (Repeated number)
 
--- a field by the shape in its link row: shape 2 is a map
-abbrev pub byShape : ℕ → FieldSays → Carried
-byShape shape f = cond (eqb shape 2) (Map (f .number)) (byLabel (f .label) (f .number))
+-- a field by its label. The label decides whether it is required, whatever shape a link row has. An image that obeys rule 3 has labels 1 to
+-- 3; any other is taken for optional
+abbrev pub byLabel : ℕ → ℕ → ℕ → Carried
+byLabel label shape number =
+    cond (eqb label (labelOf (Required number))) (Required number) (cond (eqb label (labelOf (Repeated number))) (byShape shape number) (Optional number))
 
 -- the shape of the field with flat number k. A number past the file's fields has no link row, and counts as singular, 0
 unfoldable pub shapeAt : File → ℕ → ℕ
 shapeAt file k = cond (ltb k (says file .fields)) (fieldLinkOf (linkRow (file .links) (fieldLinkAt (says file) k) fieldLinkWidth) .shape) 0
 
--- the flat number of a message's first field, off the message's link row
-abbrev pub firstFieldWord : List ℕ → ℕ → ℕ
-firstFieldWord links m = wordAt links (messageLinkAt m + 4)
-
 -- what was found among the regular fields of flat message m. A field's flat number is its place behind the message's first field
 abbrev pub carriedAt : File → ℕ → Found → Carried
-carriedAt file m (found.At j) = byShape (shapeAt file (firstFieldWord (file .links) m + j)) (fieldIn file m j)
+carriedAt file m (found.At j) = byLabel (fieldIn file m j .label) (shapeAt file (firstFieldWord (file .links) m + j)) (fieldIn file m j .number)
 carriedAt file m found.Nothing = Nothing
 
 -- what flat message m carries under an own name: the first regular field of that name. A number past the file's messages carries nothing
@@ -98,6 +104,6 @@ carries c = not (eqb (labelOf c) 0)
 abbrev pub isRequired : Carried → Bool
 isRequired c = eqb (labelOf c) 2
 
--- the check can pass without the field that is carried: it is not required, or the file is proto3, where no required field is looked for
+-- the check can pass without the field that is carried: it is not required, or the file is proto3, where a required label is no cause of a mark
 abbrev pub passesWithout : Schema → Carried → Bool
 passesWithout g c = carries c && (not (isRequired c) || eqb (g .syntax) 3)

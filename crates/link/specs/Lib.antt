@@ -6,7 +6,9 @@ pub mod Chain
 pub mod Marks
 pub mod Edges
 pub mod Rows
+pub mod Given
 pub mod Refusals
 pub mod Link
 pub mod Phases
 pub mod Audit
+pub mod Lookup

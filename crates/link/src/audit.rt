@@ -9,7 +9,7 @@ use image::rows::Kind;
 ghost use mathlib.Core.Path.{_≡_};
 ghost use Prim.Native.Nat.{_+_};
 ghost use Rattle.image.specs.declared.rows.Found.the-variants.{At};
-ghost use Rattle.link.specs.Audit.{saysAlone, markOf, byLabel, shapeAt, carriedAt, carriedUnder, passesWithout};
+ghost use Rattle.link.specs.Audit.{saysAlone, readMark, byShape, byLabel, shapeAt, carriedAt, carriedUnder, passesWithout};
 
 // The mark of a message: it skips the completeness check, or may be incomplete, with the distance to the nearest cause.
 pub enum Mark {
@@ -35,7 +35,7 @@ pub fn message_count(image: &[u32]) -> u32
 
 // The mark of a message, off its link row.
 pub fn mark_of(links: &[u32], m: Flat) -> Mark
-    ensures { λ r. ⌜ r ≡ markOf (now (links .entry)) (m .0) ⌝ }
+    ensures { λ r. ⌜ r ≡ readMark (now (links .entry)) (m .0) ⌝ }
 {
     let link = link_rows::message_link_row(links, m);
     if link[8] == 0 {
@@ -58,15 +58,25 @@ fn shape_at(image: &[u32], pool: &[u8], links: &[u32], first: u32, j: u32) -> u3
     link[5]
 }
 
-// A field that is no map.
-fn by_label(label: u32, number: u32) -> Carried
-    ensures { λ r. ⌜ r ≡ byLabel label number ⌝ }
+// A repeated field.
+fn by_shape(shape: u32, number: u32) -> Carried
+    ensures { λ r. ⌜ r ≡ byShape shape number ⌝ }
+{
+    if shape == 2 {
+        return Carried::Map(number);
+    }
+    Carried::Repeated(number)
+}
+
+// A field by its label, which alone decides whether it is required.
+fn by_label(label: u32, shape: u32, number: u32) -> Carried
+    ensures { λ r. ⌜ r ≡ byLabel label shape number ⌝ }
 {
     if label == 2 {
         return Carried::Required(number);
     }
     if label == 3 {
-        return Carried::Repeated(number);
+        return by_shape(shape, number);
     }
     Carried::Optional(number)
 }
@@ -78,10 +88,7 @@ fn carried_at(image: &[u32], pool: &[u8], links: &[u32], m: Flat, j: u32) -> Car
     let link = link_rows::message_link_row(links, m);
     let shape = shape_at(image, pool, links, link[4], j);
     let field = field_index::field_in(image, pool, links, m, j);
-    if shape == 2 {
-        return Carried::Map(field[2]);
-    }
-    by_label(field[3], field[2])
+    by_label(field[3], shape, field[2])
 }
 
 // What a message carries under an own name.

@@ -23,7 +23,7 @@ ghost use Rattle.lists.specs.Below.{bit};
 ghost use Rattle.lists.specs.Splice.{splice};
 ghost use Rattle.image.specs.Schema.{schemaOf};
 ghost use Rattle.image.specs.Laid.{Sound};
-ghost use Rattle.image.specs.Links.{messageLinkWidth, enumLinkWidth, oneofLinkWidth, linkWords, linksOf};
+ghost use Rattle.image.specs.Links.{linkWords, linksOf};
 ghost use Rattle.image.specs.Record.{fieldLinkWidth, endWords, recordWords};
 ghost use Rattle.image.specs.Shelf.{fileLimit, usedWith};
 ghost use Rattle.image.specs.Verdict.{first};

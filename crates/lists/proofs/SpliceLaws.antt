@@ -5,11 +5,13 @@ use Prim.Native.Nat.{ℕ, zero, suc, _+_, _-_, _≤_, _<_}
 use native.Mathlib.Nat.{add-zero, zero-add, add-suc, add-assoc}
 use native.Mathlib.Numerals.{add-one}
 use native.Mathlib.Omega.{arith}
-use lib.ListN.{length, take, drop, getD, set, length-append, length-take, length-drop, List·getD-append, take-append-drop}
+use lib.ListN.{length, take, drop, getD, set, length-append, length-take, length-drop, drop-of-length-le, List·getD-append, take-append-drop}
 use lib.Seq.{take-suc, drop-cons, take-suc-set, getD-take, getD-drop, take-all, take-length, length-take-le, take-at, drop-at, paste, paste-suc, getD-append-add, drop-append-add, drop-drop, sets, sets-eq}
 use borrow.Author.Tests.{le-leb, lt-leb}
+use Rattle.lists.specs.Lists.{part}
 use Rattle.lists.specs.Splice.{splice, fronted}
 use Rattle.lists.proofs.Cases.{order}
+use Rattle.lists.proofs.ListLaws.{part-all}
 
 module _ {A : Type 0} where
   -- ---- a list written out
@@ -178,3 +180,13 @@ module _ {A : Type 0} where
       order (length ws) (length vs)
       (λ h. ap length (fronted-short ws vs h))
       (λ h. ap length (fronted-fits ws vs h) ∙ length-splice ws 0 vs (omega arith))
+
+  -- a list written to the front of what lies from element `at` on is written there into the whole
+  pub put-behind : (ws : List A) (at : ℕ) (vs rest : List A) → at + length vs ≤ length ws → rest ≡ fronted (part at (length ws - at) ws) vs
+      → take at ws ++ (rest ++ drop (length ws - at) (drop at ws)) ≡ splice ws at vs
+  unfolding splice
+  put-behind ws at vs rest h e =
+      let fits : length vs ≤ length (drop at ws) = simp length-drop (omega arith) in
+      let none : drop (length ws - at) (drop at ws) ≡ [] = drop-of-length-le (drop at ws) {i = length ws - at} (simp length-drop (omega arith)) in
+      rw (none, e, part-all ws at, fronted-fits (drop at ws) vs fits, append-nil, zero-add, drop-drop)
+      (sym (append-assoc (take at ws) vs (drop (at + length vs) ws)))

@@ -1,20 +1,13 @@
 -- `formats::words::put_bytes` meets its contract. Assumes nothing.
 use borrow.Author.Needs.{needs}
-use mathlib.Core.Path.{ap, _∙_}
-use mathlib.Core.List.{_++_}
-use Prim.Native.Nat.{_-_}
-use lib.ListN.{length, take, drop}
-use Rattle.formats.proofs.WordLaws.{put-part}
+use Rattle.lists.proofs.SpliceLaws.{put-behind}
 use Rattle.formats.proofs.words.put_bytes.Statement.{statement}
 use Rattle.formats.proofs.words.put_bytes.Tie as tie
 
 returns : tie.Need-returns
 returns c =
     let b = c .before .before .before .before .before .before in
-    let out = b .args .out .now in
-    let at = b .args .at in
-    ap (λ l. take at out ++ (l ++ drop (length out - at) (drop at out))) (c .before .before .put-front .ensures .1)
-    ∙ put-part out (b .args .src .now) at (b .pre)
+    put-behind (b .args .out .now) (b .args .at) (b .args .src .now) _ (b .pre) (c .before .before .put-front .ensures .1)
 
 pub put-bytes-spec : {M : Type 1} → statement M
 put-bytes-spec =

@@ -2,7 +2,7 @@
 use borrow.Author.Needs.{needs}
 use mathlib.Core.Path.{_∙_}
 use Rattle.image.specs.Record.{File}
-use Rattle.link.proofs.AuditLaws.{at-map, at-other}
+use Rattle.link.proofs.AuditLaws.{at-field}
 use Rattle.link.proofs.audit.carried_at.Statement.{statement}
 use Rattle.link.proofs.audit.carried_at.Tie as tie
 
@@ -13,14 +13,8 @@ returns : tie.Need-returns
 returns c =
     let r = c .before .before .before in
     let a = r .before .before .before .before .args in
-    at-map (file r) (a .m .0) (a .j) (c .before .field-in .result) (r .message-link-row .ensures) (c .before .before .shape-at .ensures) (c .before .field-in .ensures) (c .if1 .taken)
-
-returns-2 : tie.Need-returns-2
-returns-2 c =
-    let r = c .before .before .before .before in
-    let a = r .before .before .before .before .args in
     c .by-label .ensures
-    ∙ at-other (file r) (a .m .0) (a .j) (c .before .before .field-in .result) (r .message-link-row .ensures) (c .before .before .before .shape-at .ensures) (c .before .before .field-in .ensures) (c .before .if1 .left)
+    ∙ at-field (file r) (a .m .0) (a .j) (c .before .field-in .result) (r .message-link-row .ensures) (c .before .before .shape-at .ensures) (c .before .field-in .ensures)
 
 pub carried-at-spec : {M : Type 1} → statement M
 carried-at-spec =
@@ -31,8 +25,6 @@ carried-at-spec =
     (λ c κs. search needs)
     (λ c κs. search needs)
     (λ c. search needs)
-    returns
-    (λ c. search needs)
     (λ c. search needs)
     (λ c κs. search needs)
-    returns-2)
+    returns)
