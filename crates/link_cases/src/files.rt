@@ -1,6 +1,4 @@
 // A file of a case: read, linked, and what was answered.
-use crate::expected;
-use crate::expected::Answer;
 use crate::records;
 use crate::say;
 use crate::state::Lent;
@@ -12,6 +10,8 @@ use link::link::Linked;
 use names::bytes as texts;
 use names::name;
 use tokens::Token;
+use tokens::heads;
+use tokens::heads::Expect;
 ghost use Prim.Native.Nat.{_≤_};
 
 fn least(a: usize, b: usize) -> usize
@@ -89,9 +89,9 @@ fn say_refused(number: u32, place: u32) {
     say::number(place);
 }
 
-// Ends the line of an answer.
-fn end_line(text: &[u8], expect: Token, a: Answer) {
-    if expected::differs(text, expect, a) {
+// Ends the line of an answer: a refusal's number and place, or number 0.
+fn end_line(expect: Expect, number: u32, place: u32) {
+    if !heads::is_met(expect, number, place) {
         say::text(b" (the case says otherwise)");
     }
     say::text(b"\n");
@@ -99,8 +99,7 @@ fn end_line(text: &[u8], expect: Token, a: Answer) {
 
 // Links a file and says what was answered. The answer is the three numbers behind it; a refusal has none, and they stay.
 fn link_file(
-    text: &[u8],
-    expect: Token,
+    expect: Expect,
     s: State,
     image: &[u32],
     pool: &[u8],
@@ -117,7 +116,7 @@ fn link_file(
     match linked {
         Linked::Accepted(after) => {
             say_accepted(used, after);
-            end_line(text, expect, expected::accepted());
+            end_line(expect, 0, 0);
             records::say_record(words, image, pool, used, after, s.whole);
             after
         }
@@ -125,7 +124,7 @@ fn link_file(
             let number = r.number();
             say_refused(number, place);
             say_changes(words, bytes, &words_before, &bytes_before);
-            end_line(text, expect, Answer { number, place });
+            end_line(expect, number, place);
             used
         }
     }
@@ -141,15 +140,13 @@ pub fn read_file(
 ) -> State {
     let mut image = [0u32; 65537];
     let mut pool = [0u8; 32769];
-    let w = tokens::next(text, t.end);
-    let b = tokens::next(text, w.end);
-    let expect = tokens::next(text, b.end);
-    let n = tokens::number(text, w) as usize;
-    let k = tokens::number(text, b) as usize;
-    let middle = tokens::read_words(text, expected::end_of(text, expect), &mut image, n);
+    let h = heads::head_of(text, t);
+    let n = h.words as usize;
+    let k = h.bytes as usize;
+    let middle = tokens::read_words(text, h.end, &mut image, n);
     let end = tokens::read_bytes(text, middle, &mut pool, k);
+    let expect = h.expect;
     let used = link_file(
-        text,
         expect,
         s,
         tokens::front_words(&image, most(n, s.lent.image as usize)),

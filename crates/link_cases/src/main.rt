@@ -9,7 +9,6 @@
 //
 // so that the refusals can be seen that need such a shelf or such an image.
 mod cases;
-mod expected;
 mod files;
 mod records;
 mod say;

@@ -11,15 +11,6 @@ use image::shelf::Used;
 use image::texts;
 use names::name::Fronted;
 
-// The words from `start` up to `end`.
-fn between(words: &[u32], start: usize, end: usize) -> &[u32] {
-    let front = tokens::front_words(words, end);
-    if front.len() <= start {
-        return &front[..0];
-    }
-    &front[start..]
-}
-
 // The full name of a message or an enum: the messages, then the enums.
 fn say_full_name(image: &[u32], s: Sections, pool: &[u8], links: &[u32], item: u32) {
     let mut name = [0u8; 512];
@@ -114,8 +105,8 @@ fn say_rows(label: &[u8], image: &[u32], pool: &[u8], links: &[u32], kind: Kind)
 
 // Says the record that reaches from the words used before to those used after. Behind the image stand the link rows, and 8 words.
 pub fn say_record(words: &[u32], image: &[u32], pool: &[u8], used: Used, after: Used, whole: bool) {
-    let record = between(words, used.words as usize, after.words as usize);
-    let links = between(record, image.len(), record.len());
+    let record = tokens::words_between(words, used.words as usize, after.words as usize);
+    let links = tokens::words_between(record, image.len(), record.len());
     say_rows(b"    message ", image, pool, links, Kind::Message);
     say_rows(b"    enum ", image, pool, links, Kind::Enum);
     say_rows(b"    oneof ", image, pool, links, Kind::Oneof);

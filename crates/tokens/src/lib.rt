@@ -2,6 +2,8 @@
 // space. `#` starts a comment that runs to the end of its line.
 //
 // Below stands `names`, by whose rule a number is read. Every public function is total: any bytes and any places are answered.
+pub mod heads;
+
 use names::bytes;
 use names::runtime_type_box::DefaultRead;
 use names::runtime_type_box::RuntimeType;
@@ -9,7 +11,7 @@ use names::runtime_type_box::parse_proto_default_value;
 ghost use mathlib.Core.Path.{_≡_};
 ghost use mathlib.Core.Bool.{_||_};
 ghost use lib.Dec.{eqb};
-ghost use lib.ListN.{take, set};
+ghost use lib.ListN.{take, drop, set};
 ghost use Rattle.lists.specs.Lists.{same};
 ghost use Rattle.tokens.specs.Tokens.{hash, isSpace, inComment, tokenStart, tokenEnd, nextToken, bytesOf, numberOf};
 ghost use Rattle.tokens.specs.Reading.{lowByte, filled, wordsFrom, bytesFrom, endOfTokens};
@@ -102,6 +104,17 @@ pub fn front_bytes(bytes: &[u8], n: usize) -> &[u8]
         return bytes;
     }
     &bytes[..n]
+}
+
+// The words from word `start` up to word `end`, as far as there are any.
+pub fn words_between(words: &[u32], start: usize, end: usize) -> &[u32]
+    ensures { λ r. ⌜ now r ≡ drop start (take end (now (words .entry))) ⌝ }
+{
+    let front = front_words(words, end);
+    if front.len() <= start {
+        return &front[..0];
+    }
+    &front[start..]
 }
 
 // The bytes of a token.

@@ -1,7 +1,7 @@
 -- `link::fds::search_list` meets its contract: what waits on the stack, last one first, is what is left of the walk. Assumes nothing.
 use Prim.Native.Nat.{ℕ, _<_, _+_, _-_, _*_}
 use native.Mathlib.Omega.{arith}
-use mathlib.Core.Path.{refl, sym, _∙_}
+use mathlib.Core.Path.{sym, _∙_}
 use mathlib.Core.List.{reverse}
 use lib.ListN.{getD, take, length-replicate}
 use Rattle.lists.proofs.TableLaws.{length-table}
@@ -81,7 +81,7 @@ search-list-spec =
     (tie.spec
     Inv-loop
     μ-loop
-    (λ c. refl)
+    (λ c. sym (length-replicate {A = ℕ} 1056 0))
     push-imports-requires
     loop-holds
     (λ c. omega (arith, c .loop-test .taken))
