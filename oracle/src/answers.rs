@@ -31,7 +31,7 @@ impl Tally {
         }
     }
 
-    fn add(&mut self, other: &Tally) {
+    pub fn add(&mut self, other: &Tally) {
         self.accepted += other.accepted;
         self.failed += other.failed;
         self.panicked += other.panicked;
@@ -99,7 +99,7 @@ fn answer_some(cases: &[Case], next: &AtomicUsize) -> Vec<Answered> {
 }
 
 /// Panics of the crate are answers, and nothing to write on the terminal.
-fn silence_panics() {
+pub fn silence_panics() {
     std::panic::set_hook(Box::new(|_| {}));
 }
 
@@ -134,22 +134,37 @@ impl Shelf {
 }
 
 fn answer_case(case: &Case) -> Result<(CaseAnswers, Tally), String> {
+    let asked = ask(case)?;
+    Ok((asked.answers, asked.tally))
+}
+
+/// What the crate made of a case.
+pub struct Asked {
+    pub answers: CaseAnswers,
+    pub tally: Tally,
+    /// For each file, what the crate has on its shelf.
+    pub descriptors: Vec<Option<FileDescriptor>>,
+}
+
+/// Asks the crate about each file of the case.
+pub fn ask(case: &Case) -> Result<Asked, String> {
     let mut shelf = Shelf::default();
     let mut tally = Tally::default();
-    let mut files = Vec::new();
+    let (mut files, mut descriptors) = (Vec::new(), Vec::new());
     for (number, file) in case.files.iter().enumerate() {
+        let shelved = shelf.files.len();
         let answer =
             answer_file(&mut shelf, file, &mut tally).map_err(|e| format!("file {number}: {e}"))?;
         tally.count(&answer);
         files.push(answer);
+        descriptors.push(shelf.files.get(shelved).cloned());
     }
-    Ok((
-        CaseAnswers {
-            name: case.name.clone(),
-            files,
-        },
+    let name = case.name.clone();
+    Ok(Asked {
+        answers: CaseAnswers { name, files },
         tally,
-    ))
+        descriptors,
+    })
 }
 
 fn answer_file(shelf: &mut Shelf, file: &FileCase, tally: &mut Tally) -> Result<Answer, String> {

@@ -74,6 +74,18 @@ pub struct Report {
 }
 
 impl Report {
+    /// Takes up the report on other cases, but for which of them is the smallest.
+    pub fn add(&mut self, other: Report) {
+        self.lines.extend(other.lines);
+        self.cases += other.cases;
+        self.files += other.files;
+        self.words += other.words;
+        self.both_accepted += other.both_accepted;
+        self.both_refused += other.both_refused;
+        self.refused_by_us += other.refused_by_us;
+        self.differing_cases += other.differing_cases;
+    }
+
     pub fn summary(&self) -> String {
         format!(
             "{} cases, {} files: {} accepted by both ({} words compared), {} refused by both, {} refused by ours alone; {} differences in {} cases",
@@ -115,7 +127,8 @@ pub fn compare(
     Ok(report)
 }
 
-fn size(case: &Case) -> usize {
+/// The words of a case's images.
+pub fn size(case: &Case) -> usize {
     case.files.iter().map(|f| f.image.words.len()).sum()
 }
 

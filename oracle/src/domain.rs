@@ -86,6 +86,19 @@ impl Shelf {
     }
 }
 
+/// Does the file keep the rules that it can break by itself: 4, 5, 8 to 11 and 17? Every file on a well-formed shelf does.
+pub fn stands(file: &FileDescriptorProto) -> bool {
+    let flat = Flat::of(file);
+    let mut names = HashSet::new();
+    let differ = flat.full_names().all(|n| names.insert(n));
+    let clash = |m: &DescriptorProto| judge_clashes(&m.field).is_err();
+    differ
+        && !passes_a_limit(&flat)
+        && !breaks_a_byte_rule(&flat)
+        && judge_map_entries(&flat).is_ok()
+        && !flat.messages.iter().any(|(m, _)| clash(m))
+}
+
 fn refuse_if(wrong: bool, number: u32) -> Drawn {
     if wrong {
         Err((number, 0))

@@ -28,7 +28,7 @@ fn pair(what: &str, limit: usize, make: impl Fn(usize) -> FileDescriptorProto) -
 }
 
 /// The n-th of many short names.
-fn name(n: usize) -> String {
+pub fn name(n: usize) -> String {
     let letters = b"abcdefghijklmnopqrstuvwxyzABCDEFGHIJKLMNOPQRSTUVWXYZ";
     let mut text = String::new();
     let mut rest = n;
@@ -47,7 +47,7 @@ fn long_name(length: usize) -> String {
 }
 
 /// A field by its place: names and numbers differ within a message.
-fn numbered_field(n: usize) -> FieldDescriptorProto {
+pub fn numbered_field(n: usize) -> FieldDescriptorProto {
     field(&name(n), n as i32 + 1, OPTIONAL, INT32)
 }
 
@@ -98,7 +98,7 @@ fn counts() -> Vec<Case> {
     cases
 }
 
-fn with_messages(file_name: &str, count: usize) -> FileDescriptorProto {
+pub fn with_messages(file_name: &str, count: usize) -> FileDescriptorProto {
     let mut f = file(file_name, "", 3);
     f.message_type = (0..count).map(|i| message(&name(i))).collect();
     f

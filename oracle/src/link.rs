@@ -78,8 +78,8 @@ impl Places {
 /// A file as the public interface shows it, in flat order.
 pub struct View {
     file: FileDescriptor,
-    messages: Vec<MessageDescriptor>,
-    enums: Vec<EnumDescriptor>,
+    pub messages: Vec<MessageDescriptor>,
+    pub enums: Vec<EnumDescriptor>,
     /// With its message and its place in it.
     oneofs: Vec<(OneofDescriptor, usize, usize)>,
     /// With the message that declares it.

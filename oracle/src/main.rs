@@ -1,23 +1,38 @@
 //! The oracle: runs the crate protobuf 3.7.2 on file images.
 
+// Without our linker, what only its commands use stands idle.
+#![cfg_attr(not(has_njuolasti), allow(dead_code))]
+
 mod answers;
+#[cfg(has_njuolasti)]
+mod bench;
 mod case;
 mod compare;
 mod damage;
 mod domain;
 mod files;
+#[cfg(has_njuolasti)]
+mod formed;
 mod image;
 mod index;
 mod limits;
 mod link;
+#[cfg(has_njuolasti)]
+mod linked;
+#[cfg(has_njuolasti)]
+mod lookups;
 mod make;
 mod makers;
+#[cfg(has_njuolasti)]
+mod ours;
 mod protoc;
 mod purpose;
 mod random;
 mod real;
 mod rng;
 mod show;
+#[cfg(has_njuolasti)]
+mod spoil;
 mod stored;
 mod tree;
 
@@ -32,8 +47,14 @@ const USAGE: &str =
        oracle stored DIR
        oracle answers CASES [-o FILE]
        oracle compare CASES CRATE_ANSWERS OUR_ANSWERS [--keep FILE]
+       oracle linked real|random|purpose|limits|damage|CASES [--seed N] [--count N] [--every N] [--keep FILE]
+       oracle spoil [--seed N] [--count N]
+       oracle bench [--rows FILE]
        oracle show CASES NAME
        oracle image SET -o FOLDER";
+
+#[cfg(not(has_njuolasti))]
+const NOT_LINKED: &str = "this oracle was built without our linker, which is linked in on x86-64 Linux alone: run rt staticlib njuolasti in the repository, then oracle/build";
 
 /// What a command comes to: nothing wrong, differences found, or files left out.
 enum Outcome {
@@ -79,6 +100,14 @@ fn run(args: &[String]) -> Result<Outcome, String> {
         "show" => show(rest),
         "stored" => stored(rest),
         "image" => image(rest),
+        #[cfg(has_njuolasti)]
+        "linked" => linked(rest),
+        #[cfg(has_njuolasti)]
+        "spoil" => spoil(rest),
+        #[cfg(has_njuolasti)]
+        "bench" => bench(rest),
+        #[cfg(not(has_njuolasti))]
+        "linked" | "spoil" | "bench" => Err(NOT_LINKED.to_owned()),
         other => Err(format!("there is no command `{other}`\n{USAGE}")),
     }
 }
@@ -197,6 +226,70 @@ fn compare(args: &[String]) -> Result<Outcome, String> {
         );
     }
     Ok(Outcome::Differences)
+}
+
+/// The cases that are made and compared at a time.
+#[cfg(has_njuolasti)]
+const PORTION: usize = 500;
+
+#[cfg(has_njuolasti)]
+fn linked(args: &[String]) -> Result<Outcome, String> {
+    let (args, keep) = take_option(args, "--keep")?;
+    let (args, seed) = take_number(&args, "--seed")?;
+    let (args, count) = take_number(&args, "--count")?;
+    let (args, every) = take_number(&args, "--every")?;
+    let [kind] = plain(args)?;
+    let every = every.filter(|n| *n > 0).unwrap_or(1);
+    let mut total = linked::Total::new(every);
+    makers::each_portion(&kind, seed, count, PORTION, |cases| total.run(cases))?;
+    for line in total.lines() {
+        println!("{line}");
+    }
+    println!("{}", total.summary());
+    let Some(smallest) = &total.smallest else {
+        return Ok(Outcome::Good);
+    };
+    if let Some(path) = keep {
+        write(
+            Some(&path),
+            &case::write_cases(std::slice::from_ref(smallest)),
+        )?;
+        println!(
+            "the smallest differing case, `{}`, is in {path}",
+            smallest.name
+        );
+    }
+    Ok(Outcome::Differences)
+}
+
+#[cfg(has_njuolasti)]
+fn spoil(args: &[String]) -> Result<Outcome, String> {
+    let (args, seed) = take_number(args, "--seed")?;
+    let (args, count) = take_number(&args, "--count")?;
+    let [] = plain(args)?;
+    let mut total = spoil::Total::default();
+    total.run(seed.unwrap_or(1), count.unwrap_or(PORTION));
+    for line in &total.lines {
+        println!("{line}");
+    }
+    println!("{}", total.summary());
+    Ok(if total.lines.is_empty() {
+        Outcome::Good
+    } else {
+        Outcome::Differences
+    })
+}
+
+#[cfg(has_njuolasti)]
+fn bench(args: &[String]) -> Result<Outcome, String> {
+    let (args, path) = take_option(args, "--rows")?;
+    let [] = plain(args)?;
+    let mut rows = String::new();
+    write(None, &bench::run(&mut rows)?)?;
+    if path.is_some() {
+        write(path.as_deref(), &rows)?;
+    }
+    Ok(Outcome::Good)
 }
 
 fn show(args: &[String]) -> Result<Outcome, String> {

@@ -2,7 +2,7 @@
 
 use std::path::Path;
 
-use crate::case::Case;
+use crate::case::{self, Case};
 use crate::{damage, limits, purpose, random, real};
 
 pub const KINDS: &str = "real|random|purpose|limits|damage";
@@ -10,7 +10,7 @@ const SEED: u64 = 1;
 const COUNT: usize = 4000;
 
 /// Where oracle/real leaves the compiled schemas.
-const REAL: &str = concat!(env!("CARGO_MANIFEST_DIR"), "/compiled/real");
+pub const REAL: &str = concat!(env!("CARGO_MANIFEST_DIR"), "/compiled/real");
 
 /// The cases of a kind, and a line on them. Seed and count are for random and damaged ones; real ones take the seed for their shuffling.
 pub fn make(
@@ -30,4 +30,33 @@ pub fn make(
     let files: usize = cases.iter().map(|c| c.files.len()).sum();
     let line = format!("{} cases with {files} files", cases.len());
     Ok((cases, line))
+}
+
+/// Hands on the cases of a kind, or those of a file of cases. Random and damaged ones come in portions, so that not all stand in memory at once.
+pub fn each_portion(
+    kind: &str,
+    seed: Option<u64>,
+    count: Option<usize>,
+    portion: usize,
+    mut work: impl FnMut(&[Case]) -> Result<(), String>,
+) -> Result<(), String> {
+    let (seed, count) = (seed.unwrap_or(SEED), count.unwrap_or(COUNT));
+    if !matches!(kind, "random" | "damage") {
+        let cases = make_or_read(kind, seed)?;
+        return work(&cases);
+    }
+    for done in (0..count).step_by(portion) {
+        let next = portion.min(count - done);
+        let (cases, _) = make(kind, Some(seed.wrapping_add(done as u64)), Some(next))?;
+        work(&cases)?;
+    }
+    Ok(())
+}
+
+fn make_or_read(kind: &str, seed: u64) -> Result<Vec<Case>, String> {
+    if !Path::new(kind).is_file() {
+        return Ok(make(kind, Some(seed), None)?.0);
+    }
+    let text = std::fs::read_to_string(kind).map_err(|e| format!("{kind}: {e}"))?;
+    case::read_cases(&text).map_err(|e| format!("{kind}: {e}"))
 }

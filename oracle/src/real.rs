@@ -19,11 +19,11 @@ use crate::rng::Rng;
 const SHUFFLED_EVERY: usize = 4;
 
 /// A real file with its image; two files are the same if their images are.
-struct RealFile {
-    proto: FileDescriptorProto,
-    image: Image,
+pub struct RealFile {
+    pub proto: FileDescriptorProto,
+    pub image: Image,
     /// Words of its record.
-    words: usize,
+    pub words: usize,
 }
 
 /// The cases of all sets in the folder, and a line on what they hold and what was left out.
@@ -78,10 +78,13 @@ fn counts(of: &BTreeMap<String, usize>) -> String {
     }
 }
 
-type Set = Vec<Rc<RealFile>>;
+pub type Set = Vec<Rc<RealFile>>;
 
 /// The sets, each with the files in the order of their imports, the file it was made for last.
-fn read_sets(folder: &Path, left_out: &mut BTreeMap<String, usize>) -> Result<Vec<Set>, String> {
+pub fn read_sets(
+    folder: &Path,
+    left_out: &mut BTreeMap<String, usize>,
+) -> Result<Vec<Set>, String> {
     let wrong = |e: &dyn std::fmt::Display| format!("{}: {e} (run oracle/real)", folder.display());
     let entries = fs::read_dir(folder).map_err(|e| wrong(&e))?;
     let mut paths: Vec<_> = entries.flatten().map(|e| e.path()).collect();
