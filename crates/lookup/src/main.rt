@@ -4,7 +4,7 @@
 //
 // The kinds are `message NAME`, `enum NAME`, `field MESSAGE NAME`, `field-number MESSAGE NUMBER`, `value ENUM NAME` and
 // `value-number ENUM NUMBER`. Messages and enums are given by their full names behind a dot, fields and values by their own names. Every file
-// of the shelf is asked.
+// of the shelf is asked. `message-name FILE NUMBER` and `enum-name FILE NUMBER` give the full name of a message or an enum of one file.
 mod kinds;
 mod queries;
 
@@ -15,7 +15,7 @@ use shelf_io::shelves::State;
 fn run(words: &mut [u32], bytes: &mut [u8], file: &mut [u8]) {
     if os::arg_count() < 3 {
         say::text(
-            b"usage: lookup SHELF KIND NAME ..   KIND is message, enum, field, field-number, value or value-number\n",
+            b"usage: lookup SHELF KIND NAME ..   KIND is message, enum, field, field-number, value, value-number, message-name or enum-name\n",
         );
         return;
     }
@@ -23,7 +23,8 @@ fn run(words: &mut [u32], bytes: &mut [u8], file: &mut [u8]) {
     let state = opened.state;
     let places = opened.places;
     if let State::Ready = state {
-        queries::answer_all(words, bytes, places, opened.used.files);
+        let used = opened.used;
+        queries::answer_all(words, bytes, places, used);
     }
 }
 

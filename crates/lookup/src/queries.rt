@@ -5,7 +5,9 @@ use crate::kinds::Number;
 use image::rows::Found;
 use image::shelf;
 use image::shelf::Places;
+use image::shelf::Used;
 use image::well_formed;
+use link::lookup::Looked;
 use shelf_io::arguments::read_word;
 use shelf_io::say;
 use shelf_io::sentences::tell_file;
@@ -80,18 +82,56 @@ fn ask_files(
     }
 }
 
+// The full name of a message or an enum, by the numbers of its file and of itself.
+fn tell_name(words: &[u32], bytes: &[u8], used: Used, kind: Kind, file: u32, index: u32) {
+    let mut name = io::buffer();
+    let looked = kinds::name_of(words, bytes, used, kind, file, index, &mut name);
+    match looked {
+        Looked::Found(n) => say::text(front_bytes(&name, n as usize)),
+        Looked::Nothing | Looked::Refused(_) => say::text(b"nothing"),
+    }
+    ;
+    say::text(b"\n");
+}
+
+// Asks for a full name.
+fn ask_name(
+    words: &[u32],
+    bytes: &[u8],
+    used: Used,
+    kind: Kind,
+    first: &[u8],
+    second: &[u8],
+    index: u32,
+) {
+    tell_query(kind, first, second);
+    let file = kinds::index_of(first);
+    match file {
+        Number::Word(f) => tell_name(words, bytes, used, kind, f, index),
+        Number::Unreadable => {
+            say::text(b"the word in front is not a number of 32 bits\n");
+        }
+    }
+}
+
 fn ask(
     words: &[u32],
     bytes: &[u8],
     p: Places,
-    files: u32,
+    used: Used,
     kind: Kind,
     first: &[u8],
     second: &[u8],
 ) {
     let read = kinds::number_of(kind, second);
     match read {
-        Number::Word(number) => ask_files(words, bytes, p, files, kind, first, second, number),
+        Number::Word(number) => {
+            if kinds::is_naming(kind) {
+                ask_name(words, bytes, used, kind, first, second, number);
+                return;
+            }
+            ask_files(words, bytes, p, used.files, kind, first, second, number)
+        }
         Number::Unreadable => {
             tell_query(kind, first, second);
             say::text(b"the last word is not a number of 32 bits\n");
@@ -103,7 +143,7 @@ fn ask(
 fn tell_unknown(word: &[u8]) {
     say::text(word);
     say::text(
-        b": not a kind (there are message, enum, field, field-number, value, value-number)\n",
+        b": not a kind (there are message, enum, field, field-number, value, value-number, message-name, enum-name)\n",
     );
 }
 
@@ -117,7 +157,7 @@ fn read_if(wanted: bool, i: usize, out: &mut [u8]) -> usize {
 
 // Answers the query whose kind is word `at`, where `left` words stand from there on. It answers how many words it took, 0 where they are no
 // query.
-fn answer(at: usize, left: usize, words: &[u32], bytes: &[u8], p: Places, files: u32) -> usize
+fn answer(at: usize, left: usize, words: &[u32], bytes: &[u8], p: Places, used: Used) -> usize
     requires { ⌜ at + left < 2 ^ 64 ⌝ }
     ensures { λ r. ⌜ r ≤ left ⌝ }
 {
@@ -141,7 +181,7 @@ fn answer(at: usize, left: usize, words: &[u32], bytes: &[u8], p: Places, files:
         words,
         bytes,
         p,
-        files,
+        used,
         kind,
         front_bytes(&first, n),
         front_bytes(&second, k),
@@ -150,11 +190,11 @@ fn answer(at: usize, left: usize, words: &[u32], bytes: &[u8], p: Places, files:
 }
 
 // Answers the queries that stand from word 2 on.
-pub fn answer_all(words: &[u32], bytes: &[u8], p: Places, files: u32) {
+pub fn answer_all(words: &[u32], bytes: &[u8], p: Places, used: Used) {
     let count = os::arg_count();
     let mut at = 2;
     while at < count {
-        let taken = answer(at, count - at, words, bytes, p, files);
+        let taken = answer(at, count - at, words, bytes, p, used);
         if taken == 0 {
             return;
         }

@@ -5,10 +5,10 @@ use Rattle.lookup.proofs.queries.answer_all.Statement.{statement}
 use Rattle.lookup.proofs.queries.answer_all.Tie as tie
 
 abbrev Inv-loop : tie.InvT-loop
-Inv-loop words bytes p files count at₀ at = Unit
+Inv-loop words bytes p used count at₀ at = Unit
 
 abbrev μ-loop : tie.MeasureT-loop
-μ-loop words bytes p files count at₀ at = count - at
+μ-loop words bytes p used count at₀ at = count - at
 
 pub answer-all-spec : {M : Type 1} → statement M
 answer-all-spec =
