@@ -1,4 +1,4 @@
-//! What a file draws by 01, judged of its descriptor: written on its own, so that a case says what is expected of it without asking the crate.
+//! What a file draws by the rules, judged of its descriptor: written on its own, so that a case says what is expected of it without asking the crate.
 //!
 //! Layout (3) and the shelf's shape (2) are not judged here: a descriptor has neither.
 
@@ -26,7 +26,7 @@ pub struct Shelf {
     files: Vec<FileDescriptorProto>,
     words: usize,
     bytes: usize,
-    /// The files that 01 accepts and the crate does not have, because it panicked on them or on what they import.
+    /// The files that the rules accept and the crate does not have, because it panicked on them or on what they import.
     not_linked: HashSet<String>,
 }
 
@@ -302,7 +302,7 @@ fn has_key_and_value(m: &DescriptorProto) -> bool {
 struct Scope<'a> {
     flat: &'a Flat<'a>,
     search: Vec<Names<'a>>,
-    /// The crate panics on a name that 01 passes over: an enum with a default, where a message of that name, or an enum of which the name
+    /// The crate panics on a name that the rules pass over: an enum with a default, where a message of that name, or an enum of which the name
     /// would be a part, stands first.
     crate_panics: bool,
 }

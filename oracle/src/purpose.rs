@@ -391,7 +391,7 @@ fn enum_defaults() -> Vec<Case> {
     ]
 }
 
-/// An enum of an import, behind a message of the same name here, and behind an enum here that its name would be beneath. 01 passes over both;
+/// An enum of an import, behind a message of the same name here, and behind an enum here that its name would be beneath. The rules pass over both;
 /// so does the crate, but with a default it panics.
 fn enums_behind_others() -> Vec<Case> {
     let mut same = file("g", "", 2);
