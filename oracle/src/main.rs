@@ -48,7 +48,7 @@ const USAGE: &str =
        oracle answers CASES [-o FILE]
        oracle compare CASES CRATE_ANSWERS OUR_ANSWERS [--keep FILE]
        oracle linked real|random|purpose|limits|damage|CASES [--seed N] [--count N] [--every N] [--keep FILE]
-       oracle spoil [--seed N] [--count N]
+       oracle spoil real|random|purpose|limits|damage|CASES [--seed N] [--count N]
        oracle bench [--rows FILE]
        oracle show CASES NAME
        oracle image SET -o FOLDER";
@@ -266,9 +266,12 @@ fn linked(args: &[String]) -> Result<Outcome, String> {
 fn spoil(args: &[String]) -> Result<Outcome, String> {
     let (args, seed) = take_number(args, "--seed")?;
     let (args, count) = take_number(&args, "--count")?;
-    let [] = plain(args)?;
+    let [kind] = plain(args)?;
     let mut total = spoil::Total::default();
-    total.run(seed.unwrap_or(1), count.unwrap_or(PORTION));
+    makers::each_portion(&kind, seed, count, PORTION, |cases| {
+        total.run(cases, seed.unwrap_or(1));
+        Ok(())
+    })?;
     for line in &total.lines {
         println!("{line}");
     }

@@ -2,9 +2,9 @@
 //! must be refused exactly where the check refuses, and nothing may change by a refusal.
 
 use crate::case::{Answer, Case, Image};
+use crate::domain::{MOST_SHELF_BYTES, MOST_SHELF_WORDS};
 use crate::formed;
 use crate::ours::{Found, Lent, Shelf, Used, NOTHING};
-use crate::random;
 use crate::rng::Rng;
 
 /// So many changes are tried on each shelf.
@@ -40,11 +40,11 @@ impl Total {
         )
     }
 
-    /// Damages the shelves of the random cases of these seeds.
-    pub fn run(&mut self, seed: u64, count: usize) {
-        for case in random::cases(seed, count) {
+    /// Damages the shelf of each case. The seed says how.
+    pub fn run(&mut self, cases: &[Case], seed: u64) {
+        for case in cases {
             let mut rng = Rng::new(!seed ^ self.shelves as u64);
-            if let Err(wrong) = self.spoil_case(&case, &mut rng) {
+            if let Err(wrong) = self.spoil_case(case, &mut rng) {
                 self.lines.push(format!("case {}: {wrong}", case.name));
             }
         }
@@ -56,7 +56,10 @@ impl Total {
         let words: usize = before.iter().map(|f| 3 * f.image.words.len()).sum();
         let bytes: usize = case.files.iter().map(|f| f.image.pool.len()).sum();
         let room = 3 * last.image.words.len() + words + SPARE;
-        let mut good = Shelf::new(room, bytes + SPARE);
+        let mut good = Shelf::new(
+            room.min(MOST_SHELF_WORDS),
+            (bytes + SPARE).min(MOST_SHELF_BYTES),
+        );
         for f in before {
             good.link(&f.image)?;
         }
@@ -195,11 +198,12 @@ fn other(word: u32, rng: &mut Rng) -> u32 {
 #[cfg(test)]
 mod test {
     use super::*;
+    use crate::random;
 
     #[test]
     fn damaged_shelves_are_judged_as_the_rules_say() {
         let mut total = Total::default();
-        total.run(1, 40);
+        total.run(&random::cases(1, 40), 1);
         assert_eq!(total.lines, Vec::<String>::new());
         assert!(total.well_formed > 0 && total.second_links > 0);
     }

@@ -1,5 +1,5 @@
 pub mod ChainTheorems
-pub mod ReachLaws
+pub mod SearchTheorems
 pub mod TargetFacts
 pub mod Demands
 pub mod RowFacts

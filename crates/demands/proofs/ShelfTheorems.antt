@@ -13,7 +13,7 @@ use Rattle.image.specs.Laid.{Sound}
 use Rattle.image.specs.Links.{linksOf}
 use Rattle.image.specs.Record.{allLinkWords}
 use Rattle.image.specs.LinkTests.{linkTests, linksFit}
-use Rattle.image.specs.Shelf.{fileLimit, isNothing, fileNamed, imageTests, imageObeys, importsNamed, shelvedTests, fileFits, filesOf, usedPart, wellFormed}
+use Rattle.image.specs.Shelf.{fileLimit, isNothing, fileNamed, imageTests, imageObeys, importsNamed, shelvedTests, fileFits, wellFormed}
 use Rattle.image.specs.Verdict.{first, passes}
 use Rattle.image.specs.Judge.{mapEntryLines, namingLines}
 use Rattle.image.specs.declared.shelf.Used.{Used}
@@ -26,6 +26,7 @@ use Rattle.link.specs.Refusals.{Call, said, shelvedFiles, seen, nameLines, newF
 use Rattle.link.specs.Link.{linked}
 use Rattle.link.specs.Phases.{callOf, fromOpening}
 use Rattle.link.specs.declared.link.Linked.the-variants.{Accepted}
+use Rattle.demands.specs.Demands.{AcceptanceFits, AcceptanceAdds}
 use Rattle.link.proofs.TableLaws.{nameGroup, namingGroup, AllPassed, all-passed, none-given, given-none, shelf-pass}
 use Rattle.link.proofs.ShelfFacts.{opened-full, imports-found}
 use Rattle.link.proofs.PhaseLaws.{both-passed, all-opened, all-sound, all-files, all-links-length}
@@ -98,8 +99,7 @@ module _ (c : Call) (passed : first (table c) ≡ Passed) where
 
 -- ---- the theorems
 
--- The shelf is well formed, with the three numbers of the answer.
-pub accepted-well-formed : (c : Call) (u : Used) → linked c .answer ≡ Accepted u → wellFormed (linked c .words) (linked c .bytes) u ≡ true
+pub accepted-well-formed : (c : Call) → AcceptanceFits c
 accepted-well-formed c u h =
     let passed = accepted-verdict c h .0 in
     let new = accepted-outcome c u h in
@@ -107,9 +107,7 @@ accepted-well-formed c u h =
     rw (new .0, new .1, new .2)
     (still-well-formed (c .words) (c .bytes) (c .used) (newFile c) (rows-counted c passed) (was-formed c passed) (room .0) (room .1) (few-files c passed) (file-fits c passed))
 
--- Its files are those that were there, and the new one.
-pub accepted-files : (c : Call) (u : Used) → linked c .answer ≡ Accepted u
-    → filesOf (u .files) (usedPart (linked c .words) (linked c .bytes) u) ≡ shelvedFiles c ++ (newFile c ∷ [])
+pub accepted-files : (c : Call) → AcceptanceAdds c
 accepted-files c u h =
     let passed = accepted-verdict c h .0 in
     let new = accepted-outcome c u h in

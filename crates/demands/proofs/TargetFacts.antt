@@ -56,9 +56,6 @@ found-below n x m b e = subst (FlatBelow n) e b
 pub message-below : (file : File) (name : List ℕ) (m : Flat) → itemIn Message file name ≡ flat.At m → m .0 < says file .messages
 message-below file name m e = found-below (says file .messages) (itemIn Message file name) m (item-below Message file name) e
 
-pub enum-below : (file : File) (name : List ℕ) (m : Flat) → itemIn Enum file name ≡ flat.At m → m .0 < says file .enums
-enum-below file name m e = found-below (says file .enums) (itemIn Enum file name) m (item-below Enum file name) e
-
 -- ---- in files, one after the other
 
 -- the target exists among the files, if there is one

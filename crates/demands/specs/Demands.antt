@@ -1,7 +1,8 @@
 -- What linking owes its callers: demands 1 to 3, over the outcome `linked` that the code is proved to have. Assumes nothing.
 use mathlib.Core.Path.{_≡_}
 use mathlib.Core.Logic.{_↔_}
-use mathlib.Core.List.{List, _∷_}
+use mathlib.Core.Bool.{true}
+use mathlib.Core.List.{List, [], _∷_, _++_}
 use Prim.Native.Nat.{ℕ, _+_, _<_, _≤_}
 use lib.ListN.{length, getD}
 use Rattle.names.specs.Bytes.{dot}
@@ -10,7 +11,7 @@ use Rattle.image.specs.Links.{linksOf}
 use Rattle.image.specs.FullName.{items, fullName}
 use Rattle.image.specs.Record.{messageLinkAt}
 use Rattle.image.specs.LinkTests.{markAt, noDistance}
-use Rattle.image.specs.Shelf.{usedWith}
+use Rattle.image.specs.Shelf.{usedWith, usedPart, filesOf, wellFormed}
 use Rattle.image.specs.declared.shelf.Used.{Used}
 use Rattle.image.specs.declared.verdict.Refusal.{Refusal}
 use Rattle.image.specs.declared.verdict.Verdict.the-variants.{Passed}
@@ -19,7 +20,7 @@ use Rattle.link.specs.Chain.{Graph, Marked, Distance}
 use Rattle.link.specs.Marks.{graphOf}
 use Rattle.link.specs.Rows.{fieldLinks}
 use Rattle.link.specs.Given.{Given, NoneGiven}
-use Rattle.link.specs.Refusals.{Call, said, seen, newFile, newRecord, table}
+use Rattle.link.specs.Refusals.{Call, said, seen, shelvedFiles, newFile, newRecord, table}
 use Rattle.link.specs.Link.{answerUsed, Outcome, linked}
 use Rattle.link.specs.Lookup.{itemNamed, asked, shelfVerdict, shelvedFile, lookedUp}
 use Rattle.link.specs.Audit.{readMark}
@@ -71,6 +72,14 @@ pub record Appended (c : Call) : Type 0 where
 
 abbrev pub AcceptanceAppends : Call → Type 0
 AcceptanceAppends c = (u : Used) → linked c .answer ≡ Accepted u → Appended c
+
+-- the shelf that an acceptance leaves is well formed, with the three numbers of the answer
+abbrev pub AcceptanceFits : Call → Type 0
+AcceptanceFits c = (u : Used) → linked c .answer ≡ Accepted u → wellFormed (linked c .words) (linked c .bytes) u ≡ true
+
+-- and its files are those that were there, and the new one
+abbrev pub AcceptanceAdds : Call → Type 0
+AcceptanceAdds c = (u : Used) → linked c .answer ≡ Accepted u → filesOf (u .files) (usedPart (linked c .words) (linked c .bytes) u) ≡ shelvedFiles c ++ (newFile c ∷ [])
 
 -- "two outcomes allowed by one promise are equal"
 abbrev pub OneOutcome : Call → Type 0

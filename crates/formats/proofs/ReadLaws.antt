@@ -10,8 +10,8 @@ use Rattle.lists.specs.Lists.{isPrefixOf}
 use Rattle.lists.specs.Splice.{splice}
 use Rattle.lists.proofs.Cases.{by, order, equal, and-false, or-true}
 use Rattle.formats.specs.Words.{wordsAt}
-use Rattle.formats.specs.Files.{Kind, imageKind, shelfKind}
-use Rattle.formats.specs.Reading.{versionOf, wordCount, byteCount, fileCount, firstFault, judged, filled, readFile, readImage, shelfAnswer, readShelf}
+use Rattle.formats.specs.Files.{Kind, shelfKind}
+use Rattle.formats.specs.Reading.{versionOf, wordCount, byteCount, fileCount, firstFault, judged, filled, readFile, shelfAnswer, readShelf}
 use Rattle.formats.specs.declared.file.Sizes.{Sizes}
 use Rattle.formats.specs.declared.file.Fault.{Fault}
 use Rattle.formats.specs.declared.file.Fault.the-variants.{Foreign, OtherVersion, Damaged, TooLong}
@@ -158,16 +158,3 @@ shelf-answer file (Whole z) s e =
     (rw (w, b), ap (λ (x : ShelfSizes). x .files) (sym q))
 
 -- ---- for callers: what is read stands within the lent slices
-
-pub image-within : (file words pool : List ℕ) (s : Sizes) → readImage file words pool .answer ≡ Whole s
-    → (s .words ≤ length words) × (s .bytes ≤ length pool)
-image-within file words pool s e =
-    let c = read-sound imageKind file words pool s (omega arith) e in
-    (c .wordsFit, c .bytesFit)
-
-pub shelf-within : (file words bytes : List ℕ) (s : ShelfSizes) → readShelf file words bytes .answer ≡ shelved.Whole s
-    → (s .words ≤ length words) × (s .bytes ≤ length bytes)
-shelf-within file words bytes s e =
-    let r = shelf-answer file (readFile shelfKind file words bytes .answer) s e in
-    let c = read-sound shelfKind file words bytes (record { words = s .words; bytes = s .bytes }) (omega arith) (r .0) in
-    (c .wordsFit, c .bytesFit)

@@ -11,7 +11,7 @@ use Rattle.lists.proofs.Cases.{left, each}
 use Rattle.image.specs.Words.{trailerAt, sectionsOf, sectionOf, rowAt, sectionEnd}
 use Rattle.image.specs.Layout.{imageLimit, follows, sectionTests, sectionsFollow, frameTests, frameFits, allRowsFit, allOwned, laidOut}
 use Rattle.image.specs.Limits.{countTests, countsWithin}
-use Rattle.image.specs.Marks.{rowLimit}
+use Rattle.image.specs.Marks.{rowLimit, Roomy, roomTests, rowsWithin}
 use Rattle.image.specs.declared.rows.Sections.{Sections}
 use Rattle.image.specs.declared.rows.Kind.{Kind}
 use Rattle.image.specs.declared.rows.Kind.the-variants.{Import, Message, Enum, Value, Oneof, Field}
@@ -48,9 +48,26 @@ few-by end s f few Value = omega (arith, f, few)
 few-by end s f few Oneof = omega (arith, f, few)
 few-by end s f few Field = omega (arith, f, few)
 
-pub few-rows : (image : List ℕ) (s : Sections) → length image ≤ imageLimit → sectionsFollow image s ≡ true → (kind : Kind) → sectionOf s kind .count ≤ rowLimit
+pub few-rows : (image : List ℕ) (s : Sections) → length image ≤ imageLimit → sectionsFollow image s ≡ true → Roomy s rowLimit
 unfolding trailerAt
-few-rows image s h e = few-by (trailerAt image) s (followed image s e) (omega arith)
+few-rows image s h e = record { few = few-by (trailerAt image) s (followed image s e) (omega arith) }
+
+-- the test for few marks tells the same of them
+few-tested : (s : Sections) (n : ℕ) → rowsWithin s n ≡ true → (kind : Kind) → sectionOf s kind .count ≤ n
+unfolding rowsWithin
+few-tested s n e Import = leb-true (s .imports .count) n (each (roomTests s n) e .0)
+few-tested s n e Message = leb-true (s .messages .count) n (each (roomTests s n) e .1 .0)
+few-tested s n e Enum = leb-true (s .enums .count) n (each (roomTests s n) e .1 .1 .0)
+few-tested s n e Value = leb-true (s .values .count) n (each (roomTests s n) e .1 .1 .1 .0)
+few-tested s n e Oneof = leb-true (s .oneofs .count) n (each (roomTests s n) e .1 .1 .1 .1 .0)
+few-tested s n e Field = leb-true (s .fields .count) n (each (roomTests s n) e .1 .1 .1 .1 .1 .0)
+
+pub rows-tested : (s : Sections) (n : ℕ) → rowsWithin s n ≡ true → Roomy s n
+rows-tested s n e = record { few = few-tested s n e }
+
+-- more marks are enough as well
+pub roomy-in : {s : Sections} {m n : ℕ} → Roomy s m → m ≤ n → Roomy s n
+roomy-in room h = record { few = λ kind. omega (arith, room .few kind, h) }
 
 -- an image that obeys rule 3, and whose counts are within their limits, has at most 50,296 words
 pub few-words : (image : List ℕ) (n : ℕ) → laidOut image n ≡ true → countsWithin (sectionsOf image) ≡ true → length image ≤ imageLimit

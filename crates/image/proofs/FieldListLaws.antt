@@ -115,8 +115,8 @@ module _ (g : Schema) (ok : Sound g) where
   unfolding total
   fields-start = refl
 
-  pub fields-room : (m : ℕ) → m ≤ g .messages → firstField g m ≤ 2048
-  fields-room m l = omega (arith, fields-mono g ok m (g .messages) l, fields-end g ok, ok .few-fields)
+  pub fields-within : (m : ℕ) → m ≤ g .messages → firstField g m ≤ g .fields
+  fields-within m l = omega (arith, fields-mono g ok m (g .messages) l, fields-end g ok)
 
   pub fields-fit : (m : ℕ) → m < g .messages → g .fieldsIn (rowOf g m) .first + g .fieldsIn (rowOf g m) .count < 2 ^ 32
   fields-fit m l = omega (arith, ok .layout .fields-inside (rowOf g m) (row-in g ok m l), ok .few-fields)
@@ -127,9 +127,6 @@ module _ (g : Schema) (ok : Sound g) where
   pub file-fits : g .fileExtensions .first + g .fileExtensions .count < 2 ^ 32
   file-fits = omega (arith, ok .layout .file-inside, ok .few-fields)
 
-  pub all-room : firstField g (g .messages) + g .fileExtensions .count ≤ 2048
-  all-room = omega (arith, fields-end g ok, ok .few-fields)
-
   -- ---- and those of the file behind them
 
   own-fields : run (fieldPart g) 0 (g .messages) ≡ concatMap (fieldRows g) (flatMessages g)
@@ -137,7 +134,7 @@ module _ (g : Schema) (ok : Sound g) where
       ap (run (fieldPart g) 0) (sym (flat-length g ok))
       ∙ by-places (fieldRows g) (rowOf g) (flatMessages g) 0 (λ i l. ap (rowOf g) (zero-add i))
 
-  pub fields-all : (o₀ : List ℕ) {o₁ o₂ : List ℕ} → 2048 ≤ length o₀ → o₁ ≡ splice o₀ 0 (run (fieldPart g) 0 (g .messages))
+  pub fields-all : (o₀ : List ℕ) {o₁ o₂ : List ℕ} → g .fields ≤ length o₀ → o₁ ≡ splice o₀ 0 (run (fieldPart g) 0 (g .messages))
       → o₂ ≡ splice o₁ (firstField g (g .messages)) (rowsOf (g .fileExtensions)) → o₂ ≡ splice o₀ 0 (flatFields g)
   unfolding flatFields
   fields-all o₀ {o₁} {o₂} h p q =
@@ -147,10 +144,10 @@ module _ (g : Schema) (ok : Sound g) where
       ∙ ap (λ (k : ℕ). splice o₁ k (rowsOf (g .fileExtensions))) (sym (zero-add (firstField g (g .messages))))
       ∙ ap (λ (l : List ℕ). splice l (0 + firstField g (g .messages)) (rowsOf (g .fileExtensions))) p
       ∙ splice-splice o₀ 0 (run (fieldPart g) 0 (g .messages)) (rowsOf (g .fileExtensions)) (firstField g (g .messages)) len
-      (omega (arith, all-room, length-span (g .fileExtensions .first) (g .fileExtensions .count)))
+      (omega (arith, fields-end g ok, length-span (g .fileExtensions .first) (g .fileExtensions .count)))
       ∙ ap (λ (l : List ℕ). splice o₀ 0 (l ++ rowsOf (g .fileExtensions))) own-fields
 
-  pub containers-all : (o₀ : List ℕ) {o₁ o₂ : List ℕ} → 2048 ≤ length o₀ → o₁ ≡ splice o₀ 0 (run (containersIn g) 0 (g .messages))
+  pub containers-all : (o₀ : List ℕ) {o₁ o₂ : List ℕ} → g .fields ≤ length o₀ → o₁ ≡ splice o₀ 0 (run (containersIn g) 0 (g .messages))
       → o₂ ≡ splice o₁ (firstField g (g .messages)) (repeated (g .fileExtensions .count) 0) → o₂ ≡ splice o₀ 0 (containers g)
   unfolding containers
   containers-all o₀ {o₁} {o₂} h p q =
@@ -160,4 +157,4 @@ module _ (g : Schema) (ok : Sound g) where
       ∙ ap (λ (k : ℕ). splice o₁ k (repeated (g .fileExtensions .count) 0)) (sym (zero-add (firstField g (g .messages))))
       ∙ ap (λ (l : List ℕ). splice l (0 + firstField g (g .messages)) (repeated (g .fileExtensions .count) 0)) p
       ∙ splice-splice o₀ 0 (run (containersIn g) 0 (g .messages)) (repeated (g .fileExtensions .count) 0) (firstField g (g .messages)) len
-      (omega (arith, all-room, length-table {A = ℕ} (g .fileExtensions .count) (λ _. 0)))
+      (omega (arith, fields-end g ok, length-table {A = ℕ} (g .fileExtensions .count) (λ _. 0)))

@@ -5,6 +5,7 @@ pub mod FewLaws
 pub mod TextLaws
 pub mod FieldLaws
 pub mod SearchLaws
+pub mod SeenLaws
 pub mod ValueLaws
 pub mod TestLaws
 pub mod MemberLaws

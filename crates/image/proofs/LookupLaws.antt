@@ -1,22 +1,20 @@
 -- Laws of lookups by path: what a search has found when it stops, and that where rule 8 is kept each message and enum is found by its own
 -- path. Assumes nothing.
-use mathlib.Core.Path.{_≡_, refl, ap}
+use mathlib.Core.Path.{_≡_}
 use mathlib.Core.Bool.{Bool, true, false}
 use mathlib.Core.List.{List}
-use Prim.Native.Nat.{ℕ, zero, suc, _+_, _<_, _≤_}
+use Prim.Native.Nat.{ℕ, _+_, _<_}
 use native.Mathlib.Omega.{arith}
-use borrow.Author.Tests.{lt-ltb, le-ltb, eqb-true}
+use borrow.Author.Tests.{lt-ltb, le-ltb}
 use Rattle.lists.specs.Below.{anyBelow}
 use Rattle.lists.specs.Lists.{same}
 use Rattle.lists.proofs.BelowLaws.{anyBelow-false, anyBelow-none, first-is, first-none}
 use Rattle.lists.proofs.ListLaws.{same-refl}
-use Rattle.names.specs.Package.{concatPaths}
 use Rattle.image.specs.Schema.{Schema}
-use Rattle.image.specs.FullName.{inside, path, messagePath, enumPath, items, itemPath, sharesName}
+use Rattle.image.specs.FullName.{messagePath, enumPath, items, itemPath, sharesName}
 use Rattle.image.specs.Lookup.{firstFlat, messageByPath, enumByPath}
-use Rattle.image.specs.Chained.{Named, outside, standsIn}
+use Rattle.image.specs.Chained.{Named}
 use Rattle.image.specs.declared.full_name.FlatFound.the-variants.{At, Nothing}
-use Rattle.image.proofs.PathLaws.{path-root}
 use Rattle.image.proofs.ItemLaws.{message-path-as, enum-path-as}
 use Rattle.image.proofs.SiblingLaws.{shares-paths}
 
@@ -29,19 +27,6 @@ unfolding firstFlat
 flat-none n p h = rw (first-none n p n (anyBelow-false n p h), le-ltb n n (omega arith))
 
 -- ---- depth: one that is great enough loses nothing
-
-inside-agree : (f h : ℕ → List ℕ) (fine : ℕ → Bool) → ((p : ℕ) → fine p ≡ true → f p ≡ h p) → (a : ℕ) → outside fine a ≡ true → inside f a ≡ inside h a
-unfolding inside outside
-inside-agree f h fine e zero t = refl
-inside-agree f h fine e (suc p) t = e p t
-
-pub path-enough : (name : ℕ → List ℕ) (up : ℕ → ℕ) (a d m : ℕ) → d ≤ a → standsIn up d m ≡ true → path name up a m ≡ path name up d m
-unfolding path standsIn
-path-enough name up a zero m h t = path-root name up a m (eqb-true (up m) 0 t)
-path-enough name up zero (suc d) m h t = absurd (omega arith)
-path-enough name up (suc a) (suc d) m h t =
-    ap (λ (l : List ℕ). concatPaths l (name m))
-    (inside-agree (path name up a) (path name up d) (standsIn up d) (λ p s. path-enough name up a d p (omega arith) s) (up m) t)
 
 -- ---- where rule 8 is kept
 

@@ -32,11 +32,6 @@ module _ (name : ℕ → List ℕ) (up : ℕ → ℕ) where
   path-above zero m = refl
   path-above (suc d) m = refl
 
-  pub path-root : (d m : ℕ) → up m ≡ 0 → path name up d m ≡ name m
-  unfolding path
-  path-root zero m e = refl
-  path-root (suc d) m e = rw e (concat-none (name m))
-
   -- a path is empty exactly if the own name is
   path-none : (d m : ℕ) → length (name m) ≡ 0 → path name up d m ≡ []
   path-none d m e = path-above d m ∙ concat-nil (pathAbove name up d (up m)) (name m) e

@@ -1,7 +1,6 @@
 -- What the tests of rows tell of the ranges that rows own. Assumes nothing.
 use Prim.Native.Nat.{ℕ, _+_, _≤_, _<_}
 use native.Mathlib.Nat.{zero-add}
-use native.Mathlib.Omega.{arith}
 use mathlib.Core.Path.{_≡_, ap}
 use mathlib.Core.List.{List}
 use mathlib.Core.Bool.{true, not, _||_}
@@ -15,7 +14,7 @@ use Rattle.lists.proofs.BelowLaws.{allBelow-elim, allBelow-agree}
 use Rattle.lists.proofs.SpanLaws.{range-none}
 use Rattle.image.specs.Words.{rangeAt, sectionOf, rowAt, topLevel}
 use Rattle.image.specs.Layout.{rangeFits, messageTests, enumTests, rowFits, rowsFit, covers}
-use Rattle.image.specs.Marks.{Held, Ranged, rowLimit}
+use Rattle.image.specs.Marks.{Held, Roomy}
 use Rattle.image.specs.declared.rows.Range.{Range}
 use Rattle.image.specs.declared.rows.Sections.{Sections}
 use Rattle.image.specs.declared.rows.Kind.{Kind}
@@ -24,11 +23,11 @@ use Rattle.image.specs.declared.rows.Kind.the-variants.{Message, Enum}
 pub range-inside : (count : ℕ) (g : Range) → rangeFits count g ≡ true → g .first + g .count ≤ count
 range-inside count g e = leb-true (g .first + g .count) count (left (leb (g .first + g .count) count) (not (eqb (g .count) 0) || eqb (g .first) 0) e)
 
-module _ (image : List ℕ) (s : Sections) (pool : ℕ) where
-  -- the marks have room for the rows of any kind
-  pub marks-of : (marks : List ℕ) → Ranged image s pool → length marks ≡ rowLimit → (kind : Kind) → length (take (sectionOf s kind .count) marks) ≡ sectionOf s kind .count
-  marks-of marks ranged room kind = length-take-le (sectionOf s kind .count) marks (omega (arith, ranged .few kind, room))
+-- marks that have room for the rows of any kind
+pub marks-of : (s : Sections) (marks : List ℕ) → Roomy s (length marks) → (kind : Kind) → length (take (sectionOf s kind .count) marks) ≡ sectionOf s kind .count
+marks-of s marks room kind = length-take-le (sectionOf s kind .count) marks (room .few kind)
 
+module _ (image : List ℕ) (s : Sections) (pool : ℕ) where
   message-tests : rowsFit image s pool Message ≡ true → (p : ℕ) → p < s .messages .count → allOf (messageTests image s pool (rowAt s Message p)) ≡ true
   unfolding rowsFit rowFits
   message-tests e p l = allBelow-elim (s .messages .count) (λ r. allOf (messageTests image s pool (rowAt s Message r))) e p l

@@ -19,6 +19,7 @@ pub mod Limits
 pub mod Verdict
 pub mod MapEntry
 pub mod Clash
+pub mod Seen
 pub mod Values
 pub mod Judge
 pub mod Record

@@ -1,9 +1,11 @@
 -- What the marks of owners say: a byte for each row of a section, which counts the owners that were seen. Assumes nothing.
 use mathlib.Core.Path.{_≡_}
-use mathlib.Core.List.{List}
+use mathlib.Core.List.{List, [], _∷_}
 use mathlib.Core.Bool.{Bool, true, false}
 use Prim.Native.Nat.{ℕ, _+_, _<_, _≤_}
+use lib.Dec.{leb}
 use lib.ListN.{length, getD}
+use Rattle.lists.specs.Below.{allOf}
 use Rattle.image.specs.Words.{rangeAt, sectionOf, rowAt}
 use Rattle.image.specs.Layout.{fileRangesFit, rowsFit}
 use Rattle.image.specs.declared.rows.Sections.{Sections}
@@ -28,9 +30,27 @@ pub record Free (marks : List ℕ) : Type 0 where
 abbrev pub rowLimit : ℕ
 rowLimit = 32768
 
--- what is known of an image when its owners are counted: every range lies in its section, and no section has too many rows
+-- what is known of an image when its owners are counted: every range lies in its section
 pub record Ranged (image : List ℕ) (s : Sections) (pool : ℕ) : Type 0 where
   pub files : fileRangesFit image s ≡ true
   pub messages : rowsFit image s pool Message ≡ true
   pub enums : rowsFit image s pool Enum ≡ true
-  pub few : (kind : Kind) → sectionOf s kind .count ≤ rowLimit
+
+-- n marks are enough for the rows of any section
+pub record Roomy (s : Sections) (n : ℕ) : Type 0 where
+  pub few : (kind : Kind) → sectionOf s kind .count ≤ n
+
+-- the same as a test
+abbrev pub roomTests : Sections → ℕ → List Bool
+roomTests s n =
+    leb (s .imports .count) n
+    ∷ leb (s .messages .count) n
+    ∷ leb (s .enums .count) n
+    ∷ leb (s .values .count) n
+    ∷ leb (s .oneofs .count) n
+    ∷ leb (s .fields .count) n
+    ∷ []
+
+unfoldable pub rowsWithin : Sections → ℕ → Bool
+unfolding allOf
+rowsWithin s n = allOf (roomTests s n)

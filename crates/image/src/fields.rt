@@ -6,10 +6,21 @@ use crate::rows::Sections;
 use crate::texts;
 use names::bytes;
 use names::json_name;
+use names::key;
 ghost use mathlib.Core.Path.{_≡_};
+ghost use Prim.Native.Nat.{_<_};
+ghost use lib.ListN.{length};
 ghost use Rattle.names.specs.Json.{derivedJsonName};
 ghost use Rattle.image.specs.Schema.{fieldOf, schemaIn};
 ghost use Rattle.image.specs.Clash.{jsonNameOf, isCalled, clash, clashesEarlier, firstClash, fieldByNumber, fieldByName, fieldByNameOrJson};
+ghost use Rattle.image.specs.Seen.{keysOf, markOf, isSeen, anySeen, markBehind, see, seeAll};
+
+// Where a field leaves marks: its number, and the keys of its own name and its JSON name.
+pub struct Keys {
+    pub number: u32,
+    pub name: u32,
+    pub json: u32,
+}
 
 // Whether a text is the own name or the JSON name of the field whose row is lent.
 fn is_called(row: &[u32], pool: &[u8], text: &[u8]) -> bool
@@ -82,20 +93,130 @@ fn clashes_earlier(image: &[u32], s: Sections, pool: &[u8], row: Row, j: u32) ->
     false
 }
 
-// Rule 17 of one message: the first regular field that clashes with an earlier one.
-pub fn first_clash(image: &[u32], s: Sections, pool: &[u8], row: Row) -> Found
+// The keys of the field whose row is lent.
+fn keys_of(row: &[u32], pool: &[u8]) -> Keys
+    ensures { λ r. ⌜ r ≡ keysOf (fieldOf (now (row .entry)) (now (pool .entry))) ⌝ }
+{
+    let number = rows::word_at(row, 2);
+    let own = texts::text_of(row, pool, 0);
+    let name = key::text_key(own);
+    let given = texts::text_of(row, pool, 9);
+    if given.len() == 0 {
+        return Keys {
+            number,
+            name,
+            json: key::json_key(own),
+        };
+    }
+    Keys {
+        number,
+        name,
+        json: key::text_key(given),
+    }
+}
+
+// The mark that a key leaves at its place, of n: from 1 to 254, so that keys of one place mostly differ in it.
+fn mark_of(key: u32, n: usize) -> u8
+    requires { ⌜ 0 < n ⌝ }
+    ensures { λ r. ⌜ r ≡ markOf n key ⌝ }
+{
+    (key as usize / n % 254 + 1) as u8
+}
+
+// Whether a key's place has its mark, or several.
+fn is_seen(seen: &[u8], key: u32) -> bool
+    requires { ⌜ 0 < length (now seen) ⌝ }
+    ensures { λ r. ⌜ r ≡ isSeen (now (seen .entry)) key ⌝ }
+{
+    let n = seen.len();
+    let old = seen[key as usize % n];
+    if old == 255 {
+        return true;
+    }
+    old == mark_of(key, n)
+}
+
+// Whether one of a field's keys is seen.
+fn any_seen(seen: &[u8], k: Keys) -> bool
+    requires { ⌜ 0 < length (now seen) ⌝ }
+    ensures { λ r. ⌜ r ≡ anySeen (now (seen .entry)) k ⌝ }
+{
+    if is_seen(seen, k.number) {
+        return true;
+    }
+    if is_seen(seen, k.name) {
+        return true;
+    }
+    is_seen(seen, k.json)
+}
+
+// What stands at a place once a mark more is left there: the mark, or 255 where another stood there.
+fn mark_behind(old: u8, mark: u8) -> u8
+    ensures { λ r. ⌜ r ≡ markBehind old mark ⌝ }
+{
+    if old == 0 {
+        return mark;
+    }
+    if old == mark {
+        return mark;
+    }
+    255
+}
+
+// Leaves a key's mark.
+fn see(seen: &mut [u8], key: u32)
+    requires { ⌜ 0 < length (now seen) ⌝ }
+    ensures { λ _. ⌜ now (seen .exit) ≡ see (now (seen .entry)) key ⌝ }
+{
+    let n = seen.len();
+    let at = key as usize % n;
+    seen[at] = mark_behind(seen[at], mark_of(key, n));
+}
+
+// Leaves a field's marks.
+fn see_all(seen: &mut [u8], k: Keys)
+    requires { ⌜ 0 < length (now seen) ⌝ }
+    ensures { λ _. ⌜ now (seen .exit) ≡ seeAll (now (seen .entry)) k ⌝ }
+{
+    see(seen, k.number);
+    see(seen, k.name);
+    see(seen, k.json);
+}
+
+// The first regular field that clashes with an earlier one. `seen` is lent to write in: a field none of whose keys is seen clashes
+// with no earlier one, so that only the others are compared. A mark that stands there from the beginning costs time and nothing else.
+fn first_clash_seen(image: &[u32], s: Sections, pool: &[u8], row: Row, seen: &mut [u8]) -> Found
+    requires { ⌜ 0 < length (now seen) ⌝ }
     ensures { λ r. ⌜ r ≡ firstClash (schemaIn (now (image .entry)) s (now (pool .entry))) (row .0) ⌝ }
 {
     let g = rows::fields_of(image, s, row);
     let n = g.count;
     let mut j: u32 = 0;
     while j < n {
-        if clashes_earlier(image, s, pool, row, j) {
-            return Found::At(j);
+        let f = rows::nth_field(image, s, g, j);
+        let k = keys_of(&f, pool);
+        if any_seen(seen, k) {
+            if clashes_earlier(image, s, pool, row, j) {
+                return Found::At(j);
+            }
         }
+        see_all(seen, k);
         j += 1;
     }
     Found::Nothing
+}
+
+// Rule 17 of one message: the first regular field that clashes with an earlier one. Few fields need no large table.
+pub fn first_clash(image: &[u32], s: Sections, pool: &[u8], row: Row) -> Found
+    ensures { λ r. ⌜ r ≡ firstClash (schemaIn (now (image .entry)) s (now (pool .entry))) (row .0) ⌝ }
+{
+    let g = rows::fields_of(image, s, row);
+    if g.count <= 32 {
+        let mut few = [0u8; 256];
+        return first_clash_seen(image, s, pool, row, &mut few);
+    }
+    let mut many = [0u8; 65536];
+    first_clash_seen(image, s, pool, row, &mut many)
 }
 
 pub fn field_by_number(image: &[u32], s: Sections, pool: &[u8], row: Row, number: u32) -> Found

@@ -273,8 +273,8 @@ fn list_message_fields(
 ) -> usize
     requires { ⌜ Sound (schemaIn (now image) s (now pool)) ⌝ }
     requires { ⌜ Indexed (schemaIn (now image) s (now pool)) (now links) ⌝ }
-    requires { ⌜ 2048 ≤ length (now homes) ⌝ }
-    requires { ⌜ 2048 ≤ length (now holders) ⌝ }
+    requires { ⌜ schemaIn (now image) s (now pool) .fields ≤ length (now homes) ⌝ }
+    requires { ⌜ schemaIn (now image) s (now pool) .fields ≤ length (now holders) ⌝ }
     ensures { λ r. ⌜ r ≡ firstField (schemaIn (now (image .entry)) s (now (pool .entry))) (schemaIn (now (image .entry)) s (now (pool .entry)) .messages) ⌝ }
     ensures { λ _. ⌜ now (homes .exit) ≡ splice (now (homes .entry)) 0 (concatMap (fieldPart (schemaIn (now (image .entry)) s (now (pool .entry)))) (span 0 (schemaIn (now (image .entry)) s (now (pool .entry)) .messages))) ⌝ }
     ensures { λ _. ⌜ now (holders .exit) ≡ splice (now (holders .entry)) 0 (concatMap (containersIn (schemaIn (now (image .entry)) s (now (pool .entry)))) (span 0 (schemaIn (now (image .entry)) s (now (pool .entry)) .messages))) ⌝ }
@@ -311,8 +311,8 @@ pub(crate) fn list_fields(
 )
     requires { ⌜ Sound (schemaIn (now image) s (now pool)) ⌝ }
     requires { ⌜ now links ≡ linksOf (schemaIn (now image) s (now pool)) ⌝ }
-    requires { ⌜ 2048 ≤ length (now homes) ⌝ }
-    requires { ⌜ 2048 ≤ length (now holders) ⌝ }
+    requires { ⌜ schemaIn (now image) s (now pool) .fields ≤ length (now homes) ⌝ }
+    requires { ⌜ schemaIn (now image) s (now pool) .fields ≤ length (now holders) ⌝ }
     ensures { λ _. ⌜ now (homes .exit) ≡ splice (now (homes .entry)) 0 (flatFields (schemaIn (now (image .entry)) s (now (pool .entry)))) ⌝ }
     ensures { λ _. ⌜ now (holders .exit) ≡ splice (now (holders .entry)) 0 (containers (schemaIn (now (image .entry)) s (now (pool .entry)))) ⌝ }
 {

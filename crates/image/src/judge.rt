@@ -13,12 +13,12 @@ use crate::texts;
 use crate::verdict::Refusal;
 use crate::verdict::Verdict;
 ghost use mathlib.Core.Path.{_≡_};
-ghost use Prim.Native.Nat.{_+_, _≤_};
+ghost use Prim.Native.Nat.{_≤_};
 ghost use lib.ListN.{length};
 ghost use Rattle.image.specs.Words.{sectionsOf};
 ghost use Rattle.image.specs.Schema.{schemaIn, schemaOf};
 ghost use Rattle.image.specs.Laid.{Sound};
-ghost use Rattle.image.specs.Links.{linksOf};
+ghost use Rattle.image.specs.Links.{linksOf, linkWords};
 ghost use Rattle.image.specs.Chained.{Chained, Named};
 ghost use Rattle.image.specs.Verdict.{first};
 ghost use Rattle.image.specs.Judge.{mapEntryLines, namingLines, opening, judgedBy, linksBy, numberedVerdict};
@@ -104,7 +104,7 @@ fn judge_sound(
 ) -> Judged
     requires { ⌜ s ≡ sectionsOf (now image) ⌝ }
     requires { ⌜ Sound (schemaIn (now image) s (now pool)) ⌝ }
-    requires { ⌜ 4096 ≤ length (now own) ⌝ }
+    requires { ⌜ linkWords (schemaIn (now image) s (now pool)) ≤ length (now own) ⌝ }
     ensures { λ r. ⌜ r ≡ judgedBy (numberedVerdict (now (image .entry)) s (now (pool .entry))) (schemaIn (now (image .entry)) s (now (pool .entry))) ⌝ }
     ensures { λ _. ⌜ now (links .exit) ≡ linksBy (numberedVerdict (now (image .entry)) s (now (pool .entry))) (schemaIn (now (image .entry)) s (now (pool .entry))) (now (links .entry)) ⌝ }
 {
@@ -115,6 +115,7 @@ fn judge_sound(
 
 // Judges one image. `full` says that the shelf has 32 files. Where none of 3, 4 and 5 is given, the image's link rows without marks
 // (messages, enums, oneofs) stand in front of `links` afterwards, if there is room: 4,096 words are enough for any image.
+// They are built in an array that is cleared when it is made, so an image that gives few gets a small one.
 pub fn judge_image(image: &[u32], pool: &[u8], full: bool, links: &mut [u32]) -> Judged
     ensures { λ r. ⌜ r ≡ judgedBy (opening (now (image .entry)) (now (pool .entry)) full) (schemaOf (now (image .entry)) (now (pool .entry))) ⌝ }
     ensures { λ _. ⌜ now (links .exit) ≡ linksBy (opening (now (image .entry)) (now (pool .entry)) full) (schemaOf (now (image .entry)) (now (pool .entry))) (now (links .entry)) ⌝ }
@@ -131,6 +132,10 @@ pub fn judge_image(image: &[u32], pool: &[u8], full: bool, links: &mut [u32]) ->
     }
     if !flat::is_shallow(image, s, pool) {
         return refused(Refusal::LimitPassed);
+    }
+    if links::link_words(s) <= 512 {
+        let mut few = [0u32; 512];
+        return judge_sound(image, s, pool, &mut few, links);
     }
     let mut own = [0u32; 4096];
     judge_sound(image, s, pool, &mut own, links)

@@ -13,7 +13,7 @@ ghost use Rattle.lists.specs.Below.{allOf};
 ghost use Rattle.lists.specs.Lists.{between};
 ghost use Rattle.image.specs.Words.{wordAt};
 ghost use Rattle.image.specs.Layout.{textFits, rangeFits, trailerFits, follows, sectionsFollow, fileRangesFit, frameFits, importTests, messageTests, enumTests, fieldTests, rowFits, rowsFit, allRowsFit, allOwned, parentsLower, laidOutWithinLimit};
-ghost use Rattle.image.specs.Marks.{Ranged, rowLimit};
+ghost use Rattle.image.specs.Marks.{Ranged, Roomy, rowsWithin};
 ghost use lib.ListN.{length};
 
 // Whether a + b is at most `limit`, whatever the two are.
@@ -279,7 +279,7 @@ fn all_rows_fit(image: &[u32], s: Sections, pool: usize) -> bool
 // Whether every row but an import has exactly one owner, and parents stand lower than what is nested in them.
 fn all_owned(image: &[u32], s: Sections, pool: usize, marks: &mut [u8]) -> bool
     requires { ⌜ Ranged (now image) s pool ⌝ }
-    requires { ⌜ length (now marks) ≡ rowLimit ⌝ }
+    requires { ⌜ Roomy s (length (now marks)) ⌝ }
     ensures { λ r. ⌜ r ≡ allOwned (now (image .entry)) s ⌝ }
 {
     if !owners::messages_owned(image, s, pool, marks) {
@@ -316,7 +316,30 @@ fn frame_fits(image: &[u32], s: Sections, pool: usize) -> bool
     file_ranges_fit(image, s)
 }
 
+// Whether no section has more than `limit` rows.
+fn rows_within(s: Sections, limit: u32) -> bool
+    ensures { λ r. ⌜ r ≡ rowsWithin s limit ⌝ }
+{
+    if limit < s.imports.count {
+        return false;
+    }
+    if limit < s.messages.count {
+        return false;
+    }
+    if limit < s.enums.count {
+        return false;
+    }
+    if limit < s.values.count {
+        return false;
+    }
+    if limit < s.oneofs.count {
+        return false;
+    }
+    s.fields.count <= limit
+}
+
 // Rule 3: whether an image, within its limit of words, is laid out as it should be. `pool` is the length of the pool that is lent with it.
+// Marks are cleared when they are made, so an image of few rows gets few of them.
 pub fn is_laid_out(image: &[u32], pool: usize) -> bool
     ensures { λ r. ⌜ r ≡ laidOutWithinLimit (now (image .entry)) pool ⌝ }
 {
@@ -329,6 +352,10 @@ pub fn is_laid_out(image: &[u32], pool: usize) -> bool
     }
     if !all_rows_fit(image, s, pool) {
         return false;
+    }
+    if rows_within(s, 512) {
+        let mut few = [0u8; 512];
+        return all_owned(image, s, pool, &mut few);
     }
     let mut marks = [0u8; 32768];
     all_owned(image, s, pool, &mut marks)

@@ -7,8 +7,8 @@ use crate::rows::Sections;
 use crate::shelf;
 use crate::shelf::Places;
 ghost use mathlib.Core.Path.{_≡_};
-ghost use Prim.Native.Nat.{ℕ, _+_, _<_};
-ghost use lib.ListN.{getD};
+ghost use Prim.Native.Nat.{ℕ, _+_, _<_, _≤_};
+ghost use lib.ListN.{length, getD};
 ghost use Rattle.lists.specs.Lists.{same, part};
 ghost use Rattle.image.specs.Schema.{schemaIn};
 ghost use Rattle.image.specs.Flat.{flatFields};
@@ -325,26 +325,45 @@ fn others_given(image: &[u32], s: Sections, pool: &[u8], links: &[u32], own: &[u
     )
 }
 
-// The fields of file `f`: their image rows and containing words are listed first.
+// The fields of file `f`: their image rows are listed in `homes` first, and their containing words in `holders`.
+fn listed_links_fit(
+    words: &[u32],
+    bytes: &[u8],
+    p: Places,
+    f: u32,
+    own: &[u32],
+    homes: &mut [u32],
+    holders: &mut [u32],
+) -> bool
+    requires { ⌜ f < 32 ⌝ }
+    requires { ⌜ Sound (says (fileIn (now words) (now bytes) p f)) ⌝ }
+    requires { ⌜ now own ≡ linksOf (says (fileIn (now words) (now bytes) p f)) ⌝ }
+    requires { ⌜ says (fileIn (now words) (now bytes) p f) .fields ≤ length (now homes) ⌝ }
+    requires { ⌜ says (fileIn (now words) (now bytes) p f) .fields ≤ length (now holders) ⌝ }
+    ensures { λ r. ⌜ r ≡ fieldLinksFit (filesIn (now (words .entry)) (now (bytes .entry)) p (f + 1)) (fileIn (now (words .entry)) (now (bytes .entry)) p f) ⌝ }
+{
+    let image = shelf::file_image(words, bytes, p, f);
+    let pool = shelf::file_pool(words, bytes, p, f);
+    flat::list_fields(image, rows::read_sections(image), pool, own, homes, holders);
+    field_links_fit(words, bytes, p, f, homes, holders)
+}
+
+// The same, with room for the two lists. Arrays are cleared when they are made, so a file of few fields gets small ones.
 fn all_field_links_fit(words: &[u32], bytes: &[u8], p: Places, f: u32, own: &[u32]) -> bool
     requires { ⌜ f < 32 ⌝ }
     requires { ⌜ Sound (says (fileIn (now words) (now bytes) p f)) ⌝ }
     requires { ⌜ now own ≡ linksOf (says (fileIn (now words) (now bytes) p f)) ⌝ }
     ensures { λ r. ⌜ r ≡ fieldLinksFit (filesIn (now (words .entry)) (now (bytes .entry)) p (f + 1)) (fileIn (now (words .entry)) (now (bytes .entry)) p f) ⌝ }
 {
-    let image = shelf::file_image(words, bytes, p, f);
-    let pool = shelf::file_pool(words, bytes, p, f);
+    let s = rows::read_sections(shelf::file_image(words, bytes, p, f));
+    if s.fields.count <= 128 {
+        let mut homes = [0u32; 128];
+        let mut holders = [0u32; 128];
+        return listed_links_fit(words, bytes, p, f, own, &mut homes, &mut holders);
+    }
     let mut homes = [0u32; 2048];
     let mut holders = [0u32; 2048];
-    flat::list_fields(
-        image,
-        rows::read_sections(image),
-        pool,
-        own,
-        &mut homes,
-        &mut holders,
-    );
-    field_links_fit(words, bytes, p, f, &homes, &holders)
+    listed_links_fit(words, bytes, p, f, own, &mut homes, &mut holders)
 }
 
 // All link words of file `f`, whose image gives the link rows `own`.

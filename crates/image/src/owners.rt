@@ -12,7 +12,7 @@ ghost use lib.ListN.{length, getD};
 ghost use Rattle.lists.specs.Below.{bit, allBelow, countBelow};
 ghost use Rattle.image.specs.Words.{rangeAt, sectionOf, rowAt, fieldsOf, extensionsOf, topLevel};
 ghost use Rattle.image.specs.Layout.{covers, holders, ownedOnce};
-ghost use Rattle.image.specs.Marks.{Marked, Held, Free, Ranged, rowLimit};
+ghost use Rattle.image.specs.Marks.{Marked, Held, Free, Ranged, Roomy};
 ghost use Rattle.image.specs.declared.rows.Kind.the-variants.{Message, Enum, Value, Oneof, Field};
 
 // Takes all marks away.
@@ -122,7 +122,7 @@ fn fields_owned(image: &[u32], s: Sections, own: Range, marks: &mut [u8]) -> boo
 // write in.
 pub(crate) fn messages_owned(image: &[u32], s: Sections, pool: usize, marks: &mut [u8]) -> bool
     requires { ⌜ Ranged (now image) s pool ⌝ }
-    requires { ⌜ length (now marks) ≡ rowLimit ⌝ }
+    requires { ⌜ Roomy s (length (now marks)) ⌝ }
     ensures { λ r. ⌜ r ≡ ownedOnce (now (image .entry)) s Message ⌝ }
 {
     let n = s.messages.count as usize;
@@ -132,7 +132,7 @@ pub(crate) fn messages_owned(image: &[u32], s: Sections, pool: usize, marks: &mu
 
 pub(crate) fn enums_owned(image: &[u32], s: Sections, pool: usize, marks: &mut [u8]) -> bool
     requires { ⌜ Ranged (now image) s pool ⌝ }
-    requires { ⌜ length (now marks) ≡ rowLimit ⌝ }
+    requires { ⌜ Roomy s (length (now marks)) ⌝ }
     ensures { λ r. ⌜ r ≡ ownedOnce (now (image .entry)) s Enum ⌝ }
 {
     let n = s.enums.count as usize;
@@ -142,7 +142,7 @@ pub(crate) fn enums_owned(image: &[u32], s: Sections, pool: usize, marks: &mut [
 
 pub(crate) fn values_owned(image: &[u32], s: Sections, pool: usize, marks: &mut [u8]) -> bool
     requires { ⌜ Ranged (now image) s pool ⌝ }
-    requires { ⌜ length (now marks) ≡ rowLimit ⌝ }
+    requires { ⌜ Roomy s (length (now marks)) ⌝ }
     ensures { λ r. ⌜ r ≡ ownedOnce (now (image .entry)) s Value ⌝ }
 {
     let n = s.values.count as usize;
@@ -151,7 +151,7 @@ pub(crate) fn values_owned(image: &[u32], s: Sections, pool: usize, marks: &mut 
 
 pub(crate) fn oneofs_owned(image: &[u32], s: Sections, pool: usize, marks: &mut [u8]) -> bool
     requires { ⌜ Ranged (now image) s pool ⌝ }
-    requires { ⌜ length (now marks) ≡ rowLimit ⌝ }
+    requires { ⌜ Roomy s (length (now marks)) ⌝ }
     ensures { λ r. ⌜ r ≡ ownedOnce (now (image .entry)) s Oneof ⌝ }
 {
     let n = s.oneofs.count as usize;
@@ -160,7 +160,7 @@ pub(crate) fn oneofs_owned(image: &[u32], s: Sections, pool: usize, marks: &mut 
 
 pub(crate) fn all_fields_owned(image: &[u32], s: Sections, pool: usize, marks: &mut [u8]) -> bool
     requires { ⌜ Ranged (now image) s pool ⌝ }
-    requires { ⌜ length (now marks) ≡ rowLimit ⌝ }
+    requires { ⌜ Roomy s (length (now marks)) ⌝ }
     ensures { λ r. ⌜ r ≡ ownedOnce (now (image .entry)) s Field ⌝ }
 {
     let n = s.fields.count as usize;

@@ -16,7 +16,7 @@ use crate::verdict::Verdict;
 use names::bytes::same_bytes;
 ghost use mathlib.Core.Path.{_≡_};
 ghost use mathlib.Core.Bool.{true};
-ghost use Prim.Native.Nat.{_≤_, _<_, _+_};
+ghost use Prim.Native.Nat.{_≤_, _<_};
 ghost use lib.ListN.{length, take};
 ghost use Rattle.image.specs.Schema.{schemaIn, schemaOf};
 ghost use Rattle.image.specs.Links.{linksOf, linkWords};
@@ -133,11 +133,14 @@ fn file_fits(words: &[u32], bytes: &[u8], p: Places, f: u32, own: &mut [u32]) ->
     link_tests::links_fit(words, bytes, p, f, &own[..n])
 }
 
-// Whether the first `n` files are in order.
+// Whether the first `n` files are in order. An empty shelf needs no room for link rows.
 fn files_fit(words: &[u32], bytes: &[u8], p: Places, n: u32) -> bool
     requires { ⌜ n ≤ 32 ⌝ }
     ensures { λ r. ⌜ r ≡ filesFit (now (words .entry)) (now (bytes .entry)) p n ⌝ }
 {
+    if n == 0 {
+        return true;
+    }
     let mut own = [0u32; 4096];
     let mut f: u32 = 0;
     while f < n {

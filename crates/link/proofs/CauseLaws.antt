@@ -29,7 +29,7 @@ use Rattle.image.specs.declared.rows.Kind.the-variants.{Message}
 use Rattle.image.proofs.FileLaws.{by-word}
 use Rattle.image.proofs.FieldLaws.{says}
 use Rattle.image.proofs.LinkLaws.{run-word}
-use Rattle.image.proofs.FieldListLaws.{field-count, field-parts, fields-room}
+use Rattle.image.proofs.FieldListLaws.{field-count, field-parts}
 use Rattle.image.proofs.SearchLaws.{Searching}
 use Rattle.link.specs.Marks.{isMarked, messageRefers, ownCause}
 use Rattle.link.specs.Edges.{rowsRefer, hasCause}
@@ -203,6 +203,3 @@ module _ {f : ℕ → Bool} where
 module _ (g : Schema) (ok : Sound g) (m : ℕ) (l : m < g .messages) where
   pub fields-behind : firstField g m + g .fieldsIn (rowOf g m) .count ≤ firstField g (m + 1)
   fields-behind = omega (arith, field-parts g ok m l, field-count g ok m)
-
-  pub few-behind : firstField g (m + 1) ≤ 2048
-  few-behind = fields-room g ok (m + 1) (omega arith)

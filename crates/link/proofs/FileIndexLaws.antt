@@ -36,7 +36,7 @@ use Rattle.image.specs.declared.verdict.Verdict.the-variants.{Passed, Stopped}
 use Rattle.image.proofs.Numbers.{row-in}
 use Rattle.image.proofs.Owned.{fields-length, fields-end, fields-next}
 use Rattle.image.proofs.LinkLaws.{run, run-none, run-word, run-length, run-put, message-links-length, Parts, Writing, parts-length, writing-start, writing-next, writing-end}
-use Rattle.image.proofs.FieldListLaws.{fields-start, fields-room}
+use Rattle.image.proofs.FieldListLaws.{fields-start, fields-within}
 use Rattle.image.proofs.VerdictLaws.{first-append, order-start, order-more, order-stop}
 use Rattle.link.specs.Sight.{Sight}
 use Rattle.link.specs.Field.{isMap, mapPart, isGiven, defaultRecord, namedDefault, defaultRead, hasExtendee, extendeePart, typePart, defaultPart, defaultLines, extendeeLines, typeLines, fieldLines, fieldWords}
@@ -254,8 +254,8 @@ module _ (g : Schema) {links : List ℕ} (linked : links ≡ linksOf g) (m : ℕ
 -- ---- how many fields there are
 
 module _ (g : Schema) (ok : Sound g) where
-  pub message-room : (m : ℕ) → m < g .messages → firstField g m + (g .fieldsIn (rowOf g m) .count + g .extensionsIn (rowOf g m) .count) ≤ 2048
-  message-room m l = omega (arith, fields-next g ok m l, fields-room g ok (m + 1) (omega arith))
+  pub message-room : (m : ℕ) → m < g .messages → firstField g m + (g .fieldsIn (rowOf g m) .count + g .extensionsIn (rowOf g m) .count) ≤ g .fields
+  message-room m l = omega (arith, fields-next g ok m l, fields-within g ok (m + 1) (omega arith))
 
   pub regular-inside : (m : ℕ) → m < g .messages → g .fieldsIn (rowOf g m) .first + g .fieldsIn (rowOf g m) .count ≤ 2048
   regular-inside m l = omega (arith, ok .layout .fields-inside (rowOf g m) (row-in g ok m l), ok .few-fields)
@@ -370,13 +370,13 @@ module _ (s : Sight) (list : List ℕ) (ok : Sound (says (s .own))) where
         }
 
     module _ {m : ℕ} {o : List ℕ} (w : Indexing s list o₀ m o) where
-      pub indexing-next : {v : Verdict} {o₁ : List ℕ} → m < says (s .own) .messages → 32768 ≤ length o₀ → v ≡ first (messageLines s list m) → v ≡ Passed
+      pub indexing-next : {v : Verdict} {o₁ : List ℕ} → m < says (s .own) .messages → says (s .own) .fields * 16 ≤ length o₀ → v ≡ first (messageLines s list m) → v ≡ Passed
           → length o₁ ≡ length o → o₁ ≡ splice o (partAt s m) (messagePart s list m) → Indexing s list o₀ (m + 1) o₁
       indexing-next l room p q len put =
           record {
             written =
                 writing-next (messagePart s list) (partAt s) (says (s .own) .messages) message-parts o₀ (w .written) l
-                (omega (arith, fields-room (says (s .own)) ok (m + 1) (omega arith))) refl len put;
+                (omega (arith, fields-within (says (s .own)) ok (m + 1) (omega arith))) refl len put;
             passed = order-more m (messageLines s list) (w .passed) (sym p ∙ q);
           }
 
@@ -414,7 +414,7 @@ module _ (s : Sight) (list : List ℕ) (ok : Sound (says (s .own))) where
         ∙ sym (first-passes (inOrder (says (s .own) .messages) (messageLines s list)) fileLines (sym judged ∙ q))
 
   pub file-written : (o₀ : List ℕ) {o₁ o₂ : List ℕ} {x : Range} {at : ℕ} → x ≡ says (s .own) .fileExtensions → at ≡ firstField (says (s .own)) (says (s .own) .messages)
-      → 32768 ≤ length o₀ → o₁ ≡ splice o₀ 0 (run (messagePart s list) 0 (says (s .own) .messages))
+      → says (s .own) .fields * 16 ≤ length o₀ → o₁ ≡ splice o₀ 0 (run (messagePart s list) 0 (says (s .own) .messages))
       → o₂ ≡ splice o₁ (at * 16) (fieldLinksIn s list 0 (rowsOf x)) → o₂ ≡ splice o₀ 0 (fieldLinks s list)
   unfolding fieldLinks
   file-written o₀ {o₁} {o₂} {x} {at} isFile isAt room p q =
@@ -430,4 +430,4 @@ module _ (s : Sight) (list : List ℕ) (ok : Sound (says (s .own))) where
       ∙ ap (λ (k : ℕ). splice o₁ k vs) (sym (zero-add (partAt s (g .messages))))
       ∙ ap (λ (l : List ℕ). splice l (0 + partAt s (g .messages)) vs) p
       ∙ splice-splice o₀ 0 us vs (partAt s (g .messages)) len
-      (omega (arith, fields-end g ok, ok .few-fields, run-length f 16 (links-wide s list 0) (g .fileExtensions .first) (g .fileExtensions .count)))
+      (omega (arith, fields-end g ok, run-length f 16 (links-wide s list 0) (g .fileExtensions .first) (g .fileExtensions .count)))

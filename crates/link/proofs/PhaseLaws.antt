@@ -30,7 +30,7 @@ use Rattle.image.specs.declared.verdict.Refusal.the-variants.{NoRoom, ShelfBrok
 use Rattle.image.specs.declared.verdict.Verdict.{Verdict}
 use Rattle.image.specs.declared.verdict.Verdict.the-variants.{Passed, Stopped}
 use Rattle.image.proofs.SchemaLaws.{schema-of}
-use Rattle.image.proofs.JudgeLaws.{links-few, front-links}
+use Rattle.image.proofs.JudgeLaws.{front-links}
 use Rattle.image.proofs.IndexLaws.{links-length}
 use Rattle.image.proofs.Owned.{fields-end}
 use Rattle.image.proofs.FieldListLaws.{fields-start}
@@ -253,14 +253,14 @@ module _ (c : Call) {j : Judged} {full : Bool} (f : full ≡ leb fileLimit (c .u
     pub naming-judged : j .naming ≡ first (namingLines (said c) (linksOf (said c)))
     naming-judged = ap (λ (x : Judged). x .naming) (judged-is ∙ ap (λ (v : Verdict). judgedBy v (said c)) opened-passed)
 
-    pub links-written : (own : List ℕ) {ws : List ℕ} → 4096 ≤ length own → ws ≡ linksBy (opening (c .image) (c .pool) full) (said c) own
+    pub links-written : (own : List ℕ) {ws : List ℕ} → linkWords (said c) ≤ length own → ws ≡ linksBy (opening (c .image) (c .pool) full) (said c) own
         → take (linkWords (said c)) ws ≡ linksOf (said c)
     links-written own {ws} room w =
         let ok = sound-said c opened-passed in
         let size = links-length (said c) ok in
         let q : ws ≡ fronted own (linksOf (said c)) =
         w ∙ ap (λ (x : Bool). linksBy (opening (c .image) (c .pool) x) (said c) own) f ∙ ap (λ (v : Verdict). linksBy v (said c) own) opened-passed in
-        front-links own (linksOf (said c)) (linkWords (said c)) (q ∙ fronted-fits own (linksOf (said c)) (omega (arith, size, links-few (said c) ok, room))) size
+        front-links own (linksOf (said c)) (linkWords (said c)) (q ∙ fronted-fits own (linksOf (said c)) (omega (arith, size, room))) size
 
 -- ---- a file that draws no refusal
 

@@ -1,26 +1,19 @@
--- What the search list is, whatever the imports: every file of it is on the shelf, none is in it twice, and so it is short. Assumes nothing.
-use mathlib.Core.Path.{_≡_, refl, sym, _∙_}
-use mathlib.Core.Bool.{false, _||_}
+-- What the search list is, whatever the imports: every file of it is on the shelf, and it is no longer than the shelf. Assumes nothing.
+use mathlib.Core.Path.{_≡_, _∙_}
+use mathlib.Core.Bool.{false}
 use mathlib.Core.List.{List, [], _∷_, _++_}
 use Prim.Native.Nat.{ℕ, zero, suc, _-_, _<_, _≤_}
 use native.Mathlib.Omega.{arith}
-use lib.Dec.{eqb}
-use lib.ListN.{length, getD, replicate, length-append, List·getD-append}
+use lib.ListN.{length, getD, replicate, length-append}
 use lib.Seq.{take-append-seam}
-use borrow.Author.Tests.{eq-eqb, eqb-true}
 use Rattle.lists.specs.Below.{countBelow}
-use Rattle.lists.proofs.Cases.{by, clash}
+use Rattle.lists.proofs.Cases.{by}
 use Rattle.lists.proofs.BelowLaws.{count-le, count-more}
 use Rattle.image.specs.Schema.{Schema}
 use Rattle.image.specs.Record.{File}
 use Rattle.link.specs.Search.{has, firstToLast, lastToFirst, visit, searchList, Below, listed, listOf, importsOf, publicsOf, Searchable}
 use Rattle.link.proofs.VisitLaws.{Earlier, has-more, has-last, below-append, below-up}
 use Rattle.link.proofs.RunLaws.{fits}
-
--- no file is in a list twice
-abbrev pub Once : List ℕ → Type 0
-Once [] = Unit
-Once (f ∷ fs) = (has f fs ≡ false) × Once fs
 
 -- a step keeps a property of lists, for every file below n
 abbrev Keeps : (List ℕ → Type 0) → ℕ → (List ℕ → ℕ → List ℕ) → Type 0
@@ -50,16 +43,6 @@ module _ (P : List ℕ → Type 0) (n : ℕ) where
     unfolding searchList
     search-keeps direct b p = first-keeps (visit publics n) (visit-keeps n) [] direct b p
 
-once-more : (l : List ℕ) (f : ℕ) → has f l ≡ false → Once l → Once (l ++ (f ∷ []))
-unfolding has
-once-more [] f h o = (refl, tt)
-once-more (g ∷ l) f h o =
-    by (eqb g f)
-    (λ t. clash (eqb f g || has f l) (simp (eq-eqb f g (sym (eqb-true g f t)))) h)
-    (λ t. by (has f l)
-    (λ u. clash (eqb f g || has f l) (by (eqb f g) (λ v. simp v) (λ v. simp (v, u))) h)
-    (λ u. (has-more g f l ∙ simp (o .0, t), once-more l f u (o .1))))
-
 -- as many files of a list as it has are below n
 few-more : (n : ℕ) (l : List ℕ) (f : ℕ) → f < n → has f l ≡ false → length l ≤ countBelow n (λ j. has j l)
     → length (l ++ (f ∷ [])) ≤ countBelow n (λ j. has j (l ++ (f ∷ [])))
@@ -76,10 +59,6 @@ module _ (publics : ℕ → List ℕ) (n : ℕ) (earlier : Earlier publics n) (d
   pub search-inside : Below n (searchList publics n direct)
   search-inside = search-keeps (λ l. Below n l) n publics earlier (λ l f h t p. below-append n l (f ∷ []) p (h, tt)) direct inside tt
 
-  -- and is in it once
-  pub search-once : Once (searchList publics n direct)
-  search-once = search-keeps (λ l. Once l) n publics earlier (λ l f h t p. once-more l f t p) direct inside tt
-
   -- so it has at most as many files as the shelf
   pub search-few : length (searchList publics n direct) ≤ n
   search-few =
@@ -94,9 +73,6 @@ module _ (publics : ℕ → List ℕ) (n : ℕ) (earlier : Earlier publics n) (d
 pub listed-list : (l : List ℕ) → listOf (listed l) ≡ l
 listed-list l = take-append-seam l (replicate (32 - length l) 0)
 
-pub listed-file : (l : List ℕ) (i : ℕ) → i < length l → getD (listed l .files) i 0 ≡ getD l i 0
-listed-file l i h = List·getD-append l (replicate (32 - length l) 0) 0 i h
-
 pub below-at : (n : ℕ) (l : List ℕ) (i : ℕ) → Below n l → i < length l → getD l i 0 < n
 below-at n [] i p h = absurd (omega arith)
 below-at n (f ∷ l) zero p h = p .0
@@ -107,9 +83,6 @@ below-at n (f ∷ l) (suc i) p h = below-at n l i (p .1) (omega arith)
 module _ (files : List File) (g : Schema) {n : ℕ} (l : length files ≡ n) (s : Searchable files g) where
   pub searchable-inside : Below n (searchList (publicsOf files) n (importsOf files g))
   searchable-inside = let fit = fits files g l s in search-inside (publicsOf files) n (fit .earlier) (importsOf files g) (fit .direct-in)
-
-  pub searchable-once : Once (searchList (publicsOf files) n (importsOf files g))
-  searchable-once = let fit = fits files g l s in search-once (publicsOf files) n (fit .earlier) (importsOf files g) (fit .direct-in)
 
   pub searchable-few : length (searchList (publicsOf files) n (importsOf files g)) ≤ n
   searchable-few = let fit = fits files g l s in search-few (publicsOf files) n (fit .earlier) (importsOf files g) (fit .direct-in)

@@ -1,5 +1,5 @@
 -- What a well-formed shelf says of its files, and what the search list of a file needs that passed rules 3 to 7. Assumes nothing.
-use mathlib.Core.Path.{_≡_, refl, sym, ap, subst, _∙_}
+use mathlib.Core.Path.{_≡_, refl, sym, ap, _∙_}
 use mathlib.Core.Bool.{Bool, true, false, not}
 use mathlib.Core.List.{List, [], _∷_, _++_}
 use Prim.Native.Nat.{ℕ, zero, suc, _<_, _≤_}
@@ -105,11 +105,6 @@ module _ (earlier : List File) (x : File) (h : fileFits earlier x ≡ true) wher
   pub fit-few : says x .imports ≤ 32
   fit-few = imports-few (x .image) (x .pool) fit-within
 
-  -- no earlier file has its name
-  pub fit-fresh : isNothing (fileNamed earlier (says x .fileName)) ≡ true
-  unfolding fileFits
-  fit-fresh = each (shelvedTests earlier x) h .1 .0
-
   -- each of its imports names an earlier file
   pub fit-imports : (k : ℕ) → k < says x .imports → isNothing (fileNamed earlier (says x .importName k)) ≡ false
   unfolding fileFits importsNamed
@@ -204,15 +199,6 @@ module _ (ws bs : List ℕ) (u : Used) (h : wellFormed ws bs u ≡ true) where
   unfolding wellFormed
   formed-few = leb-true (u .files) 32 (each (shelfTests ws bs u) h .0)
 
-  -- its words and bytes are used up to places in the slices
-  pub formed-words : u .words ≤ length ws
-  unfolding wellFormed
-  formed-words = leb-true (u .words) (length ws) (each (shelfTests ws bs u) h .1 .0)
-
-  pub formed-bytes : u .bytes ≤ length bs
-  unfolding wellFormed
-  formed-bytes = leb-true (u .bytes) (length bs) (each (shelfTests ws bs u) h .1 .1 .0)
-
   pub formed-shelved : shelved (u .files) (usedPart ws bs u) ≡ true
   unfolding wellFormed
   formed-shelved = each (shelfTests ws bs u) h .1 .1 .1 .0
@@ -228,14 +214,6 @@ module _ (ws bs : List ℕ) (u : Used) (h : wellFormed ws bs u ≡ true) where
     -- is in order behind those before it
     pub formed-fits : fileFits (take f files) file ≡ true
     formed-fits = shelved-fits (u .files) (usedPart ws bs u) formed-shelved f l
-
-    -- has an image that obeys all rules of one image
-    pub formed-obeys : imageObeys (file .image) (file .pool) ≡ true
-    formed-obeys = fit-obeys (take f files) file formed-fits
-
-    -- can be numbered
-    pub formed-sound : Sound (says file)
-    formed-sound = fit-sound (take f files) file formed-fits
 
     -- has at most 32 imports
     pub formed-imports : says file .imports ≤ 32
@@ -279,15 +257,3 @@ module _ (ws bs : List ℕ) (u : Used) (h : wellFormed ws bs u ≡ true) {p : Pl
         ∙ ap (fileFits (take f (filesIn ws bs p (u .files)))) (sym (getD-table (u .files) (fileIn ws bs p) f noFile l))
         ∙ ap (λ (x : List File). fitsAt x f) (sym places-files)
         ∙ formed-fits ws bs u h f l
-
-    pub places-obey : imageObeys (fileIn ws bs p f .image) (fileIn ws bs p f .pool) ≡ true
-    places-obey = fit-obeys (filesIn ws bs p f) (fileIn ws bs p f) places-fit
-
-    pub places-sound : Sound (says (fileIn ws bs p f))
-    places-sound = fit-sound (filesIn ws bs p f) (fileIn ws bs p f) places-fit
-
-  pub places-searchable : (image pool : List ℕ) (full : Bool) → opening image pool full ≡ Passed → first (importLines (filesIn ws bs p (u .files)) (schemaOf image pool)) ≡ Passed
-      → Searchable (filesIn ws bs p (u .files)) (schemaOf image pool)
-  places-searchable image pool full o i =
-      subst (λ (x : List File). Searchable x (schemaOf image pool)) places-files
-      (searchable ws bs u h image pool full o (ap (λ (x : List File). first (importLines x (schemaOf image pool))) places-files ∙ i))

@@ -23,13 +23,6 @@ use Rattle.link.specs.Refusals.{Call, said, shelvedFiles, seen, lengthTe
 
 -- ---- phases
 
--- one that stopped decides; after one that passed the next does
-pub stop-then : (v x y : Verdict) {r : Refusal} {p : ℕ} → v ≡ x → v ≡ Stopped r p → Stopped r p ≡ andThen x y
-stop-then v x y {r} {p} e f = let g : x ≡ Stopped r p = sym e ∙ f in rw g
-
-pub pass-then : (v x y w : Verdict) → v ≡ x → v ≡ Passed → w ≡ y → w ≡ andThen x y
-pass-then v x y w e f h = let g : x ≡ Passed = sym e ∙ f in rw g h
-
 -- a verdict is not both
 pub passed-not : {C : Type 0} (v : Verdict) {r : Refusal} {p : ℕ} → v ≡ Stopped r p → v ≡ Passed → C
 passed-not v e f = let z : _≡_ {A = ℕ} 0 1 = cc in absurd (omega arith)

@@ -68,7 +68,7 @@ abbrev pub firstFieldWord : List ℕ → ℕ → ℕ
 firstFieldWord links m = wordAt links (messageLinkAt m + 4)
 
 -- the flat number of the field at a place of a message, by that of its first. A number that is not below the file's fields is nothing; on
--- a well-formed shelf each is (`place-below`, in proofs/FieldTheorems)
+-- a well-formed shelf each is (`place-below`, in FieldTheorems of the crate demands)
 abbrev pub flatField : ℕ → ℕ → Found → Found
 flatField fields start (At k) = foundBelow fields (start + k)
 flatField fields start Nothing = Nothing

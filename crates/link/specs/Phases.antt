@@ -2,16 +2,17 @@
 use mathlib.Core.Path.{_≡_}
 use mathlib.Core.List.{List, [], _∷_, _++_}
 use mathlib.Core.Bool.{true}
-use Prim.Native.Nat.{ℕ, zero, suc, _+_, _*_}
+use Prim.Native.Nat.{ℕ, zero, suc, _+_, _*_, _≤_}
 use lib.Dec.{leb, eqb}
 use lib.ListN.{getD}
 use Rattle.lists.specs.Below.{bit}
 use Rattle.lists.specs.Splice.{splice}
-use Rattle.image.specs.Links.{linksOf}
+use Rattle.image.specs.Links.{linksOf, linkWords}
+use Rattle.image.specs.Record.{fieldLinkWidth}
 use Rattle.image.specs.Places.{readShelf}
 use Rattle.image.specs.Shelf.{fileLimit, wellFormed}
 use Rattle.image.specs.Verdict.{Line, first}
-use Rattle.image.specs.Judge.{openingLines, namingLines}
+use Rattle.image.specs.Judge.{openingLines, namingLines, opening}
 use Rattle.image.specs.declared.shelf.Used.{Used}
 use Rattle.image.specs.declared.shelf.Places.{Places}
 use Rattle.image.specs.declared.verdict.Verdict.the-variants.{Passed}
@@ -46,6 +47,12 @@ pub record Standing (c : Call) (p : Places) : Type 0 where
   pub lengths : first (lengthLines c) ≡ Passed
   pub formed : wellFormed (c .words) (c .bytes) (c .used) ≡ true
   pub places : p ≡ readShelf (c .words) (c .bytes) (c .used)
+
+-- scratch words have room for the link rows of the new file: `links` for those of messages, enums and oneofs, `rows` for those of fields. Of an
+-- image that 3 to 5 refuse nothing is asked
+pub record RoomForLinks (c : Call) (links rows : ℕ) : Type 0 where
+  pub links-fit : opening (c .image) (c .pool) (leb fileLimit (c .used .files)) ≡ Passed → linkWords (said c) ≤ links
+  pub rows-fit : opening (c .image) (c .pool) (leb fileLimit (c .used .files)) ≡ Passed → said c .fields * fieldLinkWidth ≤ rows
 
 -- the link rows of the new file's fields
 abbrev pub newFields : Call → List ℕ

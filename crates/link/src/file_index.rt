@@ -126,7 +126,7 @@ fn index_message(
     requires { ⌜ list .count ≤ 32 ⌝ }
     requires { ⌜ Sound (schemaOf (now image) (now pool)) ⌝ }
     requires { ⌜ now links ≡ linksOf (schemaOf (now image) (now pool)) ⌝ }
-    requires { ⌜ 32768 ≤ length (now rows) ⌝ }
+    requires { ⌜ schemaOf (now image) (now pool) .fields * 16 ≤ length (now rows) ⌝ }
     requires { ⌜ m .0 < schemaOf (now image) (now pool) .messages ⌝ }
     ensures { λ r. ⌜ r ≡ first (messageLines (sightOf (now (words .entry)) (now (bytes .entry)) p n (now (image .entry)) (now (pool .entry)) (now (links .entry))) (listOf list) (m .0)) ⌝ }
     ensures { λ r. ⌜ (r ≡ Passed → now (rows .exit) ≡ splice (now (rows .entry)) (firstField (schemaOf (now (image .entry)) (now (pool .entry))) (m .0) * 16) (fieldLinksIn (sightOf (now (words .entry)) (now (bytes .entry)) p n (now (image .entry)) (now (pool .entry)) (now (links .entry))) (listOf list) (m .0 + 1) (fieldRows (schemaOf (now (image .entry)) (now (pool .entry))) (rowOf (schemaOf (now (image .entry)) (now (pool .entry))) (m .0))))) ⌝ }
@@ -193,7 +193,7 @@ fn index_messages(
     requires { ⌜ list .count ≤ 32 ⌝ }
     requires { ⌜ Sound (schemaOf (now image) (now pool)) ⌝ }
     requires { ⌜ now links ≡ linksOf (schemaOf (now image) (now pool)) ⌝ }
-    requires { ⌜ 32768 ≤ length (now rows) ⌝ }
+    requires { ⌜ schemaOf (now image) (now pool) .fields * 16 ≤ length (now rows) ⌝ }
     ensures { λ r. ⌜ r ≡ first (inOrder ((schemaOf (now (image .entry)) (now (pool .entry))) .messages) (messageLines (sightOf (now (words .entry)) (now (bytes .entry)) p n (now (image .entry)) (now (pool .entry)) (now (links .entry))) (listOf list))) ⌝ }
     ensures { λ r. ⌜ (r ≡ Passed → now (rows .exit) ≡ splice (now (rows .entry)) 0 (concatMap (λ m. fieldLinksIn (sightOf (now (words .entry)) (now (bytes .entry)) p n (now (image .entry)) (now (pool .entry)) (now (links .entry))) (listOf list) (m + 1) (fieldRows (schemaOf (now (image .entry)) (now (pool .entry))) (rowOf (schemaOf (now (image .entry)) (now (pool .entry))) m))) (span 0 ((schemaOf (now (image .entry)) (now (pool .entry))) .messages)))) ⌝ }
 {
@@ -226,7 +226,7 @@ pub(crate) fn index_file(
     requires { ⌜ list .count ≤ 32 ⌝ }
     requires { ⌜ Sound (schemaOf (now image) (now pool)) ⌝ }
     requires { ⌜ now links ≡ linksOf (schemaOf (now image) (now pool)) ⌝ }
-    requires { ⌜ 32768 ≤ length (now rows) ⌝ }
+    requires { ⌜ schemaOf (now image) (now pool) .fields * 16 ≤ length (now rows) ⌝ }
     ensures { λ r. ⌜ r ≡ first (allFieldLines (sightOf (now (words .entry)) (now (bytes .entry)) p n (now (image .entry)) (now (pool .entry)) (now (links .entry))) (listOf list)) ⌝ }
     ensures { λ r. ⌜ (r ≡ Passed → now (rows .exit) ≡ splice (now (rows .entry)) 0 (fieldLinks (sightOf (now (words .entry)) (now (bytes .entry)) p n (now (image .entry)) (now (pool .entry)) (now (links .entry))) (listOf list))) ⌝ }
 {

@@ -339,8 +339,8 @@ fn collect_references(
 ) -> usize
     requires { ⌜ Sound (schemaIn (now image) s (now pool)) ⌝ }
     requires { ⌜ Indexed (schemaIn (now image) s (now pool)) (now links) ⌝ }
-    requires { ⌜ 8192 ≤ length (now edges) ⌝ }
-    ensures { λ r. ⌜ Pushed (now (edges .entry)) 0 (now (edges .exit)) r (schemaIn (now (image .entry)) s (now (pool .entry)) .messages) 4096 (refersBelow (schemaIn (now (image .entry)) s (now (pool .entry))) (now (fields .entry)) own (schemaIn (now (image .entry)) s (now (pool .entry)) .messages)) ⌝ }
+    requires { ⌜ schemaIn (now image) s (now pool) .fields * 4 ≤ length (now edges) ⌝ }
+    ensures { λ r. ⌜ Pushed (now (edges .entry)) 0 (now (edges .exit)) r (schemaIn (now (image .entry)) s (now (pool .entry)) .messages) (schemaIn (now (image .entry)) s (now (pool .entry)) .fields * 2) (refersBelow (schemaIn (now (image .entry)) s (now (pool .entry))) (now (fields .entry)) own (schemaIn (now (image .entry)) s (now (pool .entry)) .messages)) ⌝ }
 {
     let mut to: usize = 0;
     let mut m: u32 = 0;
@@ -361,7 +361,33 @@ fn collect_references(
     to
 }
 
-// The distance of each message of the file that is linked, whose link rows are `links` and those of its fields `fields`.
+// The distance of each message of the file that is linked, whose link rows are `links` and those of its fields `fields`. `edges` is scratch.
+fn marks_in(
+    words: &[u32],
+    bytes: &[u8],
+    p: Places,
+    n: u32,
+    image: &[u32],
+    pool: &[u8],
+    links: &[u32],
+    fields: &[u32],
+    edges: &mut [u32],
+) -> Marks
+    requires { ⌜ n ≤ 32 ⌝ }
+    requires { ⌜ Sound (schemaOf (now image) (now pool)) ⌝ }
+    requires { ⌜ now links ≡ linksOf (schemaOf (now image) (now pool)) ⌝ }
+    requires { ⌜ schemaOf (now image) (now pool) .fields * 4 ≤ length (now edges) ⌝ }
+    ensures { λ r. ⌜ ((i : ℕ) → i < schemaOf (now (image .entry)) (now (pool .entry)) .messages → getD (r .d) i 0 ≡ distance (graphOf (sightOf (now (words .entry)) (now (bytes .entry)) p n (now (image .entry)) (now (pool .entry)) (now (links .entry))) (now (fields .entry))) i) ⌝ }
+{
+    let s = rows::read_sections(image);
+    let causes = collect_causes(words, bytes, p, n, image, s, pool, links, fields);
+    let cause = causes.d;
+    let m = collect_references(image, s, pool, links, fields, n + 1, edges);
+    let count = rows::count_of(s, Kind::Message);
+    distances(edges, m, &cause, count as usize)
+}
+
+// The same, with scratch by the number of fields: each has two references at most.
 pub(crate) fn compute_marks(
     words: &[u32],
     bytes: &[u8],
@@ -377,11 +403,10 @@ pub(crate) fn compute_marks(
     requires { ⌜ now links ≡ linksOf (schemaOf (now image) (now pool)) ⌝ }
     ensures { λ r. ⌜ ((i : ℕ) → i < schemaOf (now (image .entry)) (now (pool .entry)) .messages → getD (r .d) i 0 ≡ distance (graphOf (sightOf (now (words .entry)) (now (bytes .entry)) p n (now (image .entry)) (now (pool .entry)) (now (links .entry))) (now (fields .entry))) i) ⌝ }
 {
-    let s = rows::read_sections(image);
-    let causes = collect_causes(words, bytes, p, n, image, s, pool, links, fields);
-    let cause = causes.d;
+    if rows::count_of(rows::read_sections(image), Kind::Field) <= 128 {
+        let mut few = [0u32; 512];
+        return marks_in(words, bytes, p, n, image, pool, links, fields, &mut few);
+    }
     let mut edges = [0u32; 8192];
-    let m = collect_references(image, s, pool, links, fields, n + 1, &mut edges);
-    let count = rows::count_of(s, Kind::Message);
-    distances(&edges, m, &cause, count as usize)
+    marks_in(words, bytes, p, n, image, pool, links, fields, &mut edges)
 }

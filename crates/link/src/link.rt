@@ -16,6 +16,7 @@ use image::verdict::Verdict;
 use image::well_formed;
 ghost use mathlib.Core.Path.{_≡_};
 ghost use mathlib.Core.List.{[], _∷_, _++_};
+ghost use mathlib.Core.Bool.{_&&_};
 ghost use Prim.Native.Nat.{_+_, _*_, _≤_, _<_};
 ghost use lib.Dec.{leb, eqb};
 ghost use lib.ListN.{length, take};
@@ -23,7 +24,7 @@ ghost use Rattle.lists.specs.Below.{bit};
 ghost use Rattle.lists.specs.Splice.{splice};
 ghost use Rattle.image.specs.Schema.{schemaOf};
 ghost use Rattle.image.specs.Laid.{Sound};
-ghost use Rattle.image.specs.Links.{linkWords, linksOf};
+ghost use Rattle.image.specs.Links.{linkWords, linksOf, messageLinkWidth, enumLinkWidth, oneofLinkWidth};
 ghost use Rattle.image.specs.Record.{fieldLinkWidth, endWords, recordWords};
 ghost use Rattle.image.specs.Shelf.{fileLimit, usedWith};
 ghost use Rattle.image.specs.Verdict.{first};
@@ -32,7 +33,7 @@ ghost use Rattle.image.specs.declared.verdict.Verdict.the-variants.{Passed};
 ghost use Rattle.link.specs.Chain.{noChain};
 ghost use Rattle.link.specs.Refusals.{shelvedFiles, lengthLines, importLines, newFile, newRecord, roomLines};
 ghost use Rattle.link.specs.Link.{outcome, linked};
-ghost use Rattle.link.specs.Phases.{callOf, fromFields, fromName, fromOpening, Standing, newFields, markedTo};
+ghost use Rattle.link.specs.Phases.{callOf, fromFields, fromName, fromOpening, Standing, RoomForLinks, newFields, markedTo};
 
 // The three numbers behind the new record; or a refusal with its place.
 pub enum Linked {
@@ -159,7 +160,7 @@ fn judge_fields(
     requires { ⌜ opening (now image) (now pool) (leb fileLimit (used .files)) ≡ Passed ⌝ }
     requires { ⌜ first (importLines (shelvedFiles (callOf (now words) (now bytes) used (now image) (now pool))) (schemaOf (now image) (now pool))) ≡ Passed ⌝ }
     requires { ⌜ now links ≡ linksOf (schemaOf (now image) (now pool)) ⌝ }
-    requires { ⌜ 32768 ≤ length (now rows) ⌝ }
+    requires { ⌜ schemaOf (now image) (now pool) .fields * fieldLinkWidth ≤ length (now rows) ⌝ }
     ensures { λ r. ⌜ r ≡ first (fromFields (callOf (now (words .entry)) (now (bytes .entry)) used (now (image .entry)) (now (pool .entry)))) ⌝ }
     ensures { λ r. ⌜ (r ≡ Passed → now (rows .exit) ≡ splice (now (rows .entry)) 0 (newFields (callOf (now (words .entry)) (now (bytes .entry)) used (now (image .entry)) (now (pool .entry))))) ⌝ }
 {
@@ -188,7 +189,7 @@ fn judge_seen(
     requires { ⌜ opening (now image) (now pool) (leb fileLimit (used .files)) ≡ Passed ⌝ }
     requires { ⌜ naming ≡ first (namingLines (schemaOf (now image) (now pool)) (linksOf (schemaOf (now image) (now pool)))) ⌝ }
     requires { ⌜ now links ≡ linksOf (schemaOf (now image) (now pool)) ⌝ }
-    requires { ⌜ 32768 ≤ length (now rows) ⌝ }
+    requires { ⌜ schemaOf (now image) (now pool) .fields * fieldLinkWidth ≤ length (now rows) ⌝ }
     ensures { λ r. ⌜ r ≡ first (fromName (callOf (now (words .entry)) (now (bytes .entry)) used (now (image .entry)) (now (pool .entry)))) ⌝ }
     ensures { λ r. ⌜ (r ≡ Passed → now (rows .exit) ≡ splice (now (rows .entry)) 0 (newFields (callOf (now (words .entry)) (now (bytes .entry)) used (now (image .entry)) (now (pool .entry))))) ⌝ }
 {
@@ -219,8 +220,7 @@ fn judge_opened(
     rows: &mut [u32],
 ) -> Verdict
     requires { ⌜ Standing (callOf (now words) (now bytes) used (now image) (now pool)) p ⌝ }
-    requires { ⌜ 4096 ≤ length (now links) ⌝ }
-    requires { ⌜ 32768 ≤ length (now rows) ⌝ }
+    requires { ⌜ RoomForLinks (callOf (now words) (now bytes) used (now image) (now pool)) (length (now links)) (length (now rows)) ⌝ }
     ensures { λ r. ⌜ r ≡ first (fromOpening (callOf (now (words .entry)) (now (bytes .entry)) used (now (image .entry)) (now (pool .entry)))) ⌝ }
     ensures { λ r. ⌜ (r ≡ Passed → take (linkWords (schemaOf (now (image .entry)) (now (pool .entry)))) (now (links .exit)) ≡ linksOf (schemaOf (now (image .entry)) (now (pool .entry)))) ⌝ }
     ensures { λ r. ⌜ (r ≡ Passed → now (rows .exit) ≡ splice (now (rows .entry)) 0 (newFields (callOf (now (words .entry)) (now (bytes .entry)) used (now (image .entry)) (now (pool .entry))))) ⌝ }
@@ -275,9 +275,8 @@ fn accept(
 ) -> Used
     requires { ⌜ Standing (callOf (now words) (now bytes) used (now image) (now pool)) p ⌝ }
     requires { ⌜ first (fromOpening (callOf (now words) (now bytes) used (now image) (now pool))) ≡ Passed ⌝ }
-    requires { ⌜ 4096 ≤ length (now links) ⌝ }
+    requires { ⌜ RoomForLinks (callOf (now words) (now bytes) used (now image) (now pool)) (length (now links)) (length (now rows)) ⌝ }
     requires { ⌜ take (linkWords (schemaOf (now image) (now pool))) (now links) ≡ linksOf (schemaOf (now image) (now pool)) ⌝ }
-    requires { ⌜ 32768 ≤ length (now rows) ⌝ }
     requires { ⌜ take (schemaOf (now image) (now pool) .fields * fieldLinkWidth) (now rows) ≡ newFields (callOf (now words) (now bytes) used (now image) (now pool)) ⌝ }
     ensures { λ r. ⌜ r ≡ usedWith used (newFile (callOf (now (words .entry)) (now (bytes .entry)) used (now (image .entry)) (now (pool .entry)))) ⌝ }
     ensures { λ _. ⌜ now (words .exit) ≡ splice (now (words .entry)) (used .words) (newRecord (callOf (now (words .entry)) (now (bytes .entry)) used (now (image .entry)) (now (pool .entry)))) ⌝ }
@@ -302,7 +301,48 @@ fn accept(
     used_after(used, image, pool, n + k)
 }
 
-// Links onto a shelf that is well formed.
+// Links onto a shelf that is well formed. `links` and `rows` are scratch.
+fn link_in(
+    words: &mut [u32],
+    bytes: &mut [u8],
+    used: Used,
+    p: Places,
+    image: &[u32],
+    pool: &[u8],
+    links: &mut [u32],
+    rows: &mut [u32],
+) -> Linked
+    requires { ⌜ Standing (callOf (now words) (now bytes) used (now image) (now pool)) p ⌝ }
+    requires { ⌜ RoomForLinks (callOf (now words) (now bytes) used (now image) (now pool)) (length (now links)) (length (now rows)) ⌝ }
+    ensures { λ r. ⌜ record { answer = r; words = now (words .exit); bytes = now (bytes .exit) } ≡ outcome (callOf (now (words .entry)) (now (bytes .entry)) used (now (image .entry)) (now (pool .entry))) (first (fromOpening (callOf (now (words .entry)) (now (bytes .entry)) used (now (image .entry)) (now (pool .entry))))) ⌝ }
+{
+    let v = judge_opened(words, bytes, used, p, image, pool, links, rows);
+    match v {
+        Verdict::Stopped(r, place) => Linked::Refused(r, place),
+        Verdict::Passed => Linked::Accepted(accept(
+            words,
+            bytes,
+            used,
+            p,
+            image,
+            pool,
+            links,
+            rows,
+        )),
+    }
+}
+
+// Whether the link rows of an image are few: at most 512 words, and at most 128 rows of fields.
+fn has_few_links(s: Sections) -> bool
+    ensures { λ r. ⌜ r ≡ leb (s .messages .count * messageLinkWidth + (s .enums .count * enumLinkWidth + s .oneofs .count * oneofLinkWidth)) 512 && leb (s .fields .count) 128 ⌝ }
+{
+    if 512 < link_rows::link_words(s) {
+        return false;
+    }
+    rows::count_of(s, Kind::Field) <= 128
+}
+
+// Links onto a shelf that is well formed. Scratch is cleared before it is used, so a file with few rows gets little of it.
 fn link_shelved(
     words: &mut [u32],
     bytes: &mut [u8],
@@ -314,22 +354,14 @@ fn link_shelved(
     requires { ⌜ Standing (callOf (now words) (now bytes) used (now image) (now pool)) p ⌝ }
     ensures { λ r. ⌜ record { answer = r; words = now (words .exit); bytes = now (bytes .exit) } ≡ outcome (callOf (now (words .entry)) (now (bytes .entry)) used (now (image .entry)) (now (pool .entry))) (first (fromOpening (callOf (now (words .entry)) (now (bytes .entry)) used (now (image .entry)) (now (pool .entry))))) ⌝ }
 {
+    if has_few_links(rows::read_sections(image)) {
+        let mut links = [0u32; 512];
+        let mut rows = [0u32; 2048];
+        return link_in(words, bytes, used, p, image, pool, &mut links, &mut rows);
+    }
     let mut links = [0u32; 4096];
     let mut rows = [0u32; 32768];
-    let v = judge_opened(words, bytes, used, p, image, pool, &mut links, &mut rows);
-    match v {
-        Verdict::Stopped(r, place) => Linked::Refused(r, place),
-        Verdict::Passed => Linked::Accepted(accept(
-            words,
-            bytes,
-            used,
-            p,
-            image,
-            pool,
-            &mut links,
-            &rows,
-        )),
-    }
+    link_in(words, bytes, used, p, image, pool, &mut links, &mut rows)
 }
 
 // Links a file onto a shelf.

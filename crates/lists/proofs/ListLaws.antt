@@ -1,6 +1,6 @@
 -- Laws of `isEmpty`, `all`, `any`, `same`, `isPrefixOf` and `part`. Assumes nothing.
 use mathlib.Core.Path.{_≡_, refl, sym, ap, _∙_}
-use mathlib.Core.Bool.{Bool, true, false, not, _||_, _&&_}
+use mathlib.Core.Bool.{Bool, true, false, _&&_}
 use mathlib.Core.List.{List, [], _∷_, _++_}
 use Prim.Native.Nat.{ℕ, zero, suc, _+_, _-_, _≤_, _<_}
 use native.Mathlib.Nat.{le-of-eq}
@@ -8,17 +8,12 @@ use native.Mathlib.Numerals.{add-one}
 use native.Mathlib.Omega.{arith}
 use lib.Dec.{eqb}
 use lib.ListN.{length, getD, take, drop, drop-of-length-le, length-append, length-drop, length-take}
-use lib.Seq.{drop-cons, take-all, take-take, getD-take, getD-drop}
+use lib.Seq.{drop-cons, take-all, take-take}
 use borrow.Author.Tests.{eq-eqb, ne-eqb, eqb-true}
-use Rattle.lists.specs.Lists.{isEmpty, all, any, part, same, isPrefixOf}
-use Rattle.lists.proofs.Cases.{by, clash, equal, both, left, right, and-false, and-assoc, or-false, or-assoc}
+use Rattle.lists.specs.Lists.{all, part, same, isPrefixOf}
+use Rattle.lists.proofs.Cases.{by, clash, equal, both, left, right, and-false, and-assoc}
 
 module _ {A : Type 0} where
-  pub empty-length : (l : List A) → isEmpty l ≡ eqb (length l) 0
-  unfolding isEmpty
-  empty-length [] = refl
-  empty-length (x ∷ l) = sym (ne-eqb (suc (length l)) 0 (λ e. omega arith))
-
   -- ---- all
 
   -- a turn of a loop, and its end
@@ -51,49 +46,7 @@ module _ {A : Type 0} where
   all-weaker p q [] h a = refl
   all-weaker p q (x ∷ l) h a = both (q x) (all q l) (h x (left (p x) (all p l) a)) (all-weaker p q l h (right (p x) (all p l) a))
 
-  pub all-not : (p : A → Bool) (l : List A) → all (λ x. not (p x)) l ≡ not (any p l)
-  unfolding all any
-  all-not p [] = refl
-  all-not p (x ∷ l) = by (p x) (λ t. simp t) (λ t. simp t (all-not p l))
-
   -- ---- any
-
-  pub any-at : (p : A → Bool) (s : List A) (i : ℕ) (d : A) → i < length s → any p (drop i s) ≡ p (getD s i d) || any p (drop (i + 1) s)
-  unfolding any
-  any-at p s i d h = rw (add-one, drop-cons s i d)
-
-  pub any-end : (p : A → Bool) (s : List A) (i : ℕ) → length s ≤ i → any p (drop i s) ≡ false
-  unfolding any
-  any-end p s i h = rw drop-of-length-le
-
-  pub any-append : (p : A → Bool) (l m : List A) → any p (l ++ m) ≡ any p l || any p m
-  unfolding any
-  any-append p [] m = refl
-  any-append p (x ∷ l) m = rw (any-append p l m) (sym (or-assoc (p x) (any p l) (any p m)))
-
-  -- one element more
-  pub any-more : (p : A → Bool) (l : List A) (x : A) → any p (l ++ (x ∷ [])) ≡ any p l || p x
-  unfolding any
-  any-more p l x = any-append p l (x ∷ []) ∙ rw (or-false (p x))
-
-  pub any-hit : (p : A → Bool) (l : List A) (i : ℕ) (d : A) → i < length l → p (getD l i d) ≡ true → any p l ≡ true
-  unfolding any
-  any-hit p [] i d h e = absurd (omega arith)
-  any-hit p (x ∷ l) zero d h e = simp e
-  any-hit p (x ∷ l) (suc i) d h e = by (p x) (λ t. simp t) (λ t. simp t (any-hit p l i d (omega arith) e))
-
-  pub any-elim : (p : A → Bool) (l : List A) (d : A) → any p l ≡ true → (i : ℕ) × (i < length l) × (p (getD l i d) ≡ true)
-  unfolding any
-  any-elim p [] d h = clash false h refl
-  any-elim p (x ∷ l) d h =
-      by (p x) (λ t. (0, omega arith, t)) (λ t. let r = any-elim p l d (simp t at h) in (suc (r .0), omega (arith, r .1), r .2))
-
-  pub any-none : (p : A → Bool) (l : List A) (d : A) → ((i : ℕ) → i < length l → p (getD l i d) ≡ false) → any p l ≡ false
-  any-none p l d h =
-      by (any p l) (λ t. let r = any-elim p l d t in clash (p (getD l (r .0) d)) (r .2) (h (r .0) (r .1))) (λ t. t)
-
-  pub any-false : (p : A → Bool) (l : List A) (d : A) → any p l ≡ false → (i : ℕ) → i < length l → p (getD l i d) ≡ false
-  any-false p l d h i m = by (p (getD l i d)) (λ t. clash (any p l) (any-hit p l i d m t) h) (λ t. t)
 
   -- ---- what is left of a list
 
@@ -118,9 +71,6 @@ module _ {A : Type 0} where
 
   pub length-part : (l : List A) (k n : ℕ) → k + n ≤ length l → length (part k n l) ≡ n
   length-part l k n h = simp (length-take, length-drop) (omega arith)
-
-  pub getD-part : (l : List A) (k n i : ℕ) (d : A) → i < n → getD (part k n l) i d ≡ getD l (k + i) d
-  getD-part l k n i d h = rw (getD-take, getD-drop)
 
 -- ---- same
 

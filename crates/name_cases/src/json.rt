@@ -1,6 +1,7 @@
-// Derived JSON names.
+// Derived JSON names, and keys.
 use crate::say;
 use names::json_name;
+use names::key;
 use names::name::Fronted;
 
 fn derive(name: &[u8]) {
@@ -70,9 +71,30 @@ fn compared_both_derived() {
     same(b"a", b"ab");
 }
 
+fn keyed(name: &[u8]) {
+    say::text(b"key of ");
+    say::quoted(name);
+    say::text(b": ");
+    say::number(key::text_key(name) as u64);
+    say::text(b", of its JSON name: ");
+    say::number(key::json_key(name) as u64);
+    say::text(b"\n");
+}
+
+// The key of a derived name is that of the text.
+fn keys() {
+    keyed(b"a_b");
+    keyed(b"aB");
+    keyed(b"deck_metres_");
+    keyed(b"deckMetres");
+    keyed(b"__");
+    keyed(b"");
+}
+
 pub fn run() {
     derived();
     derived_at_the_end();
     compared();
     compared_both_derived();
+    keys();
 }

@@ -1,6 +1,7 @@
 pub mod Bytes
 pub mod Package
 pub mod Json
+pub mod Key
 pub mod Integer
 pub mod Types
 pub mod Default

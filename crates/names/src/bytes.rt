@@ -24,14 +24,14 @@ fn all_between(s: &[u8], lo: u8, hi: u8) -> bool
     true
 }
 
-// Whether an identifier may start with `b`.
+// Whether an identifier may start with `b`. Lower case comes first, since it is the commonest.
 fn starts_identifier(b: u8) -> bool
     ensures { λ r. ⌜ r ≡ startsIdentifier b ⌝ }
 {
-    if is_between(65, 90, b) {
+    if is_between(97, 122, b) {
         return true;
     }
-    if is_between(97, 122, b) {
+    if is_between(65, 90, b) {
         return true;
     }
     b == 95

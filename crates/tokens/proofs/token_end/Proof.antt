@@ -1,9 +1,9 @@
 -- `tokens::token_end` meets its contract: from each place on the answer is the same. Assumes nothing.
-use Prim.Native.Nat.{_+_, _-_}
+use Prim.Native.Nat.{_-_}
 use native.Mathlib.Nat.{add-zero}
 use native.Mathlib.Omega.{arith}
 use mathlib.Core.Path.{_≡_, refl, sym, _∙_}
-use lib.ListN.{length, drop}
+use lib.ListN.{length}
 use Rattle.tokens.specs.Tokens.{tokenEnd}
 use Rattle.tokens.proofs.TokenLaws.{token-more, token-stop, token-end}
 use Rattle.tokens.proofs.token_end.Statement.{statement}

@@ -11,7 +11,8 @@ use Rattle.image.specs.Record.{repeated}
 use Rattle.image.specs.declared.rows.Range.{Range}
 use Rattle.image.proofs.SchemaLaws.{file-extensions-in}
 use Rattle.image.proofs.ChainLaws.{links-indexed}
-use Rattle.image.proofs.FieldListLaws.{file-fits, all-room, fields-all, containers-all}
+use Rattle.image.proofs.Owned.{fields-end}
+use Rattle.image.proofs.FieldListLaws.{file-fits, fields-all, containers-all}
 use Rattle.image.proofs.flat.list_fields.Statement.{statement}
 use Rattle.image.proofs.flat.list_fields.Tie as tie
 
@@ -28,10 +29,10 @@ said c = saidAt (start c)
 own : (c : tie.After-file-extensions) → c .file-extensions .result ≡ said c .fileExtensions
 own c = let a = start c .args in c .file-extensions .ensures ∙ file-extensions-in (a .image .now) (a .s) (a .pool .now)
 
-room : (c : tie.After-file-extensions) → c .before .before .before .before .before .before .before .list-message-fields .result + c .file-extensions .result .count ≤ 2048
+room : (c : tie.After-file-extensions) → c .before .before .before .before .before .before .before .list-message-fields .result + c .file-extensions .result .count ≤ said c .fields
 room c =
     let n = ap (λ (x : Range). x .count) (own c) in
-    omega (arith, c .before .before .before .before .before .before .before .list-message-fields .ensures .0, all-room (said c) (start c .pre .0))
+    omega (arith, c .before .before .before .before .before .before .before .list-message-fields .ensures .0, fields-end (said c) (start c .pre .0))
 
 list-message-fields-requires : tie.Need-list-message-fields-requires
 list-message-fields-requires c κs =

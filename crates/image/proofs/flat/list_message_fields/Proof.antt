@@ -15,7 +15,7 @@ use Rattle.image.specs.declared.rows.Range.{Range}
 use Rattle.image.proofs.SchemaLaws.{messages-in, fields-in, extensions-in}
 use Rattle.image.proofs.LinkLaws.{run, Writing, writing-start, writing-next, writing-end}
 use Rattle.image.proofs.IndexLaws.{indexed-row}
-use Rattle.image.proofs.FieldListLaws.{rows-both, words-both, field-count, field-parts, container-parts, fields-start, fields-room, fields-fit, extensions-fit}
+use Rattle.image.proofs.FieldListLaws.{rows-both, words-both, field-count, field-parts, container-parts, fields-start, fields-within, fields-fit, extensions-fit}
 use Rattle.image.proofs.flat.list_message_fields.Statement.{statement}
 use Rattle.image.proofs.flat.list_message_fields.Tie as tie
 
@@ -66,8 +66,8 @@ size c =
 next : (c : Turn) → firstField (said c) (at c .loop .m + 1) ≡ at c .loop .to + c .before .fields-of .result .count + c .extensions-of .result .count
 next c = omega (arith, field-parts (said c) (start c .pre .0) (at c .loop .m) (less c), size c, at c .loop .inv .0 .place)
 
-room : (c : Turn) → at c .loop .to + c .before .fields-of .result .count + c .extensions-of .result .count ≤ 2048
-room c = omega (arith, next c, fields-room (said c) (start c .pre .0) (at c .loop .m + 1) (omega (arith, less c)))
+room : (c : Turn) → at c .loop .to + c .before .fields-of .result .count + c .extensions-of .result .count ≤ said c .fields
+room c = omega (arith, next c, fields-within (said c) (start c .pre .0) (at c .loop .m + 1) (omega (arith, less c)))
 
 put-fields-requires : tie.Need-put-fields-requires Inv-loop μ-loop
 put-fields-requires c κs =
@@ -145,7 +145,7 @@ list-message-fields-spec =
     (λ c. search needs)
     (λ c. search needs)
     (λ c. omega (arith, room (c .before .before .before .before .before .before .before .before .before .before .before .before .before .before .before .before .before)))
-    (λ c. omega (arith, room (c .before .before .before .before .before .before .before .before .before .before .before .before .before .before .before .before .before)))
+    (λ c. let t = c .before .before .before .before .before .before .before .before .before .before .before .before .before .before .before .before .before in omega (arith, room t, start t .pre .0 .few-fields))
     (λ c. let t = c .before .before .before .before .before .before .before .before .before .before .before .before .before .before .before .before .before in omega (arith, less t, start t .pre .0 .few-messages))
     (λ c. omega (arith, c .before .before .before .before .before .before .before .before .before .before .before .before .before .before .before .before .before .before .before .before .loop-test .taken))
     loop-again

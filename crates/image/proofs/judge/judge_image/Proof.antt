@@ -2,6 +2,9 @@
 use borrow.Author.Needs.{needs}
 use mathlib.Core.Path.{_≡_, sym, ap, _∙_, subst}
 use mathlib.Core.Bool.{true}
+use Prim.Native.Nat.{_≤_}
+use native.Mathlib.Nat.{le-trans}
+use native.Mathlib.Omega.{arith}
 use lib.ListN.{length}
 use borrow.Author.Tests.{not-true, not-false}
 use Rattle.image.specs.Words.{sectionsOf}
@@ -9,11 +12,12 @@ use Rattle.image.specs.Layout.{laidOutWithinLimit}
 use Rattle.image.specs.Schema.{schemaIn, schemaOf}
 use Rattle.image.specs.Flat.{shallow}
 use Rattle.image.specs.Laid.{LaidOut, Sound}
+use Rattle.image.specs.Links.{linkWords}
 use Rattle.image.specs.Limits.{countsWithin}
-use Rattle.image.specs.Judge.{judgedBy, linksBy, numberedVerdict}
+use Rattle.image.specs.Judge.{opening, judgedBy, linksBy, numberedVerdict}
 use Rattle.image.specs.declared.rows.Sections.{Sections}
 use Rattle.image.specs.declared.verdict.Verdict.{Verdict}
-use Rattle.image.proofs.JudgeLaws.{opening-broken, opening-full, opening-counts, opening-deep, opening-numbered, sound-by, laid-by}
+use Rattle.image.proofs.JudgeLaws.{opening-broken, opening-full, opening-counts, opening-deep, opening-numbered, sound-by, laid-by, words-in, links-few}
 use Rattle.image.proofs.judge.judge_image.Statement.{statement}
 use Rattle.image.proofs.judge.judge_image.Tie as tie
 
@@ -85,28 +89,51 @@ returns-4 c =
     let e = opening-deep (a .image .now) (a .pool .now) (a .full) (laid-is o) (f .if2 .left) (counts-are (d .before)) (sym (depth-says d) ∙ not-true (d .is-shallow .result) (c .before .if4 .taken)) in
     (c .refused4 .ensures ∙ ap (λ (v : Verdict). judgedBy v g) (sym e), sym (ap (λ (v : Verdict). linksBy v g (a .links .now)) e))
 
+-- the image can be numbered
+sound-is : (x : tie.Else4) →
+    let a = x .before .before .before .before .before .before .before .before .before .before .before .args in
+    Sound (schemaIn (a .image .now) (x .before .before .before .before .read-sections .result) (a .pool .now))
+sound-is x =
+    let o = x .before .before .before .before .before .before in
+    let a = o .before .before .before .before .before .args in
+    subst (λ (y : Sections). Sound (schemaIn (a .image .now) y (a .pool .now))) (sym (x .before .before .before .before .read-sections .ensures)) (sound-by (a .image .now) (length (a .pool .now)) (a .pool .now) (laid-is o) (counts-are (x .before .before)) (depth-is x))
+
+words-are : (c : tie.After-link-words) →
+    let a = c .before .before .before .before .before .before .before .before .before .before .before .before .args in
+    c .link-words .result ≡ linkWords (schemaIn (a .image .now) (c .before .before .before .before .before .read-sections .result) (a .pool .now))
+words-are c =
+    let a = c .before .before .before .before .before .before .before .before .before .before .before .before .args in
+    c .link-words .ensures ∙ sym (words-in (a .image .now) (c .before .before .before .before .before .read-sections .result) (a .pool .now))
+
+-- what is said of its sections is said of the image
+opened : (x : tie.Else4) →
+    let a = x .before .before .before .before .before .before .before .before .before .before .before .args in
+    let s = x .before .before .before .before .read-sections .result in
+    let was = numberedVerdict (a .image .now) s (a .pool .now) in
+    let is = opening (a .image .now) (a .pool .now) (a .full) in
+    let g = schemaIn (a .image .now) s (a .pool .now) in
+    let h = schemaOf (a .image .now) (a .pool .now) in
+    (judgedBy was g ≡ judgedBy is h) × (linksBy was g (a .links .now) ≡ linksBy is h (a .links .now))
+unfolding schemaOf
+opened x =
+    let f = x .before .before .before .before .before in
+    let a = x .before .before .before .before .before .before .before .before .before .before .before .args in
+    let p = x .before .before .before .before .read-sections .ensures in
+    let g = schemaIn (a .image .now) (sectionsOf (a .image .now)) (a .pool .now) in
+    let e = opening-numbered (a .image .now) (a .pool .now) (a .full) (laid-is (f .before)) (f .if2 .left) (counts-are (x .before .before)) (depth-is x) in
+    (ap (λ (y : Sections). judgedBy (numberedVerdict (a .image .now) y (a .pool .now)) (schemaIn (a .image .now) y (a .pool .now))) p ∙ ap (λ (v : Verdict). judgedBy v g) (sym e), ap (λ (y : Sections). linksBy (numberedVerdict (a .image .now) y (a .pool .now)) (schemaIn (a .image .now) y (a .pool .now)) (a .links .now)) p ∙ ap (λ (v : Verdict). linksBy v g (a .links .now)) (sym e))
+
 judge-sound-requires : tie.Need-judge-sound-requires
 judge-sound-requires c κs =
-    let x = c .before .before in
-    let n = x .before .before .before in
-    let o = n .before .before .before in
-    let a = o .before .before .before .before .before .args in
-    let p = n .before .read-sections .ensures in
-    (p, (subst (λ (y : Sections). Sound (schemaIn (a .image .now) y (a .pool .now))) (sym p) (sound-by (a .image .now) (length (a .pool .now)) (a .pool .now) (laid-is o) (counts-are (x .before .before)) (depth-is x)), search needs))
+    let w = c .before .before .before in
+    let a = w .before .before .before .before .before .before .before .before .before .before .before .before .args in
+    let few : linkWords (schemaIn (a .image .now) (w .before .before .before .before .before .read-sections .result) (a .pool .now)) ≤ 512 = omega (arith, words-are w, c .before .before .if5 .taken) in
+    (w .before .before .before .before .before .read-sections .ensures, (sound-is (w .before), le-trans few (search needs)))
 
-returns-5 : tie.Need-returns-5
-unfolding schemaOf
-returns-5 c =
-    let x = c .before .before .before .before .before .before in
-    let n = x .before .before .before in
-    let f = n .before .before in
-    let o = f .before in
-    let a = o .before .before .before .before .before .args in
-    let p = n .before .read-sections .ensures in
-    let g = schemaIn (a .image .now) (sectionsOf (a .image .now)) (a .pool .now) in
-    let e = opening-numbered (a .image .now) (a .pool .now) (a .full) (laid-is o) (f .if2 .left) (counts-are (x .before .before)) (depth-is x) in
-    let call = c .before .before .before .judge-sound in
-    (call .ensures .0 ∙ ap (λ (y : Sections). judgedBy (numberedVerdict (a .image .now) y (a .pool .now)) (schemaIn (a .image .now) y (a .pool .now))) p ∙ ap (λ (v : Verdict). judgedBy v g) (sym e), call .ensures .1 ∙ ap (λ (y : Sections). linksBy (numberedVerdict (a .image .now) y (a .pool .now)) (schemaIn (a .image .now) y (a .pool .now)) (a .links .now)) p ∙ ap (λ (v : Verdict). linksBy v g (a .links .now)) (sym e))
+judge-sound-requires-2 : tie.Need-judge-sound-requires-2
+judge-sound-requires-2 c κs =
+    let x = c .before .before .before .before in
+    (x .before .before .before .before .read-sections .ensures, (sound-is x, le-trans (links-few _ (sound-is x)) (search needs)))
 
 pub judge-image-spec : {M : Type 1} → statement M
 judge-image-spec =
@@ -124,7 +151,12 @@ judge-image-spec =
     is-shallow-requires
     (λ c κs. search needs)
     returns-4
+    (λ c κs. search needs)
     (λ c. search needs)
     judge-sound-requires
     (λ c. search needs)
-    returns-5)
+    (λ c. let call = c .before .before .before .judge-sound in (call .ensures .0 ∙ opened (c .before .before .before .before .before .before .before .before) .0, call .ensures .1 ∙ opened (c .before .before .before .before .before .before .before .before) .1))
+    (λ c. search needs)
+    judge-sound-requires-2
+    (λ c. search needs)
+    (λ c. let call = c .before .before .before .judge-sound2 in (call .ensures .0 ∙ opened (c .before .before .before .before .before .before .before .before) .0, call .ensures .1 ∙ opened (c .before .before .before .before .before .before .before .before) .1)))

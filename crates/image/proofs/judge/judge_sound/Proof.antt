@@ -8,7 +8,7 @@ use lib.Seq.{length-take-le}
 use Rattle.image.specs.Schema.{Schema, schemaIn}
 use Rattle.image.specs.Links.{linksOf, linkWords}
 use Rattle.image.proofs.IndexLaws.{links-length}
-use Rattle.image.proofs.JudgeLaws.{words-in, links-few, front-links}
+use Rattle.image.proofs.JudgeLaws.{words-in, front-links}
 use Rattle.image.proofs.judge.judge_sound.Statement.{statement}
 use Rattle.image.proofs.judge.judge_sound.Tie as tie
 
@@ -24,7 +24,7 @@ counted c =
 room : (c : tie.After-link-words) → c .link-words .result ≤ length (c .before .before .before .number .last .1 .1 .1 .0)
 room c =
     let b = c .before .before .before .before .before .before .before .before .before in
-    omega (arith, counted c, links-few (said c) (b .pre .1 .0), b .pre .1 .1, c .before .before .before .number .kept .1 .1 .1 .0)
+    omega (arith, counted c, b .pre .1 .1, c .before .before .before .number .kept .1 .1 .1 .0)
 
 judge-numbered-requires : tie.Need-judge-numbered-requires
 judge-numbered-requires c κs =
@@ -36,9 +36,7 @@ pub judge-sound-spec : {M : Type 1} → statement M
 judge-sound-spec =
     tie.close
     (tie.spec
-    (λ c κs.
-    let b = c .before .before .before .before .before in
-    (b .pre .1 .0, omega (arith, links-few (schemaIn (b .args .image .now) (b .args .s) (b .args .pool .now)) (b .pre .1 .0), b .pre .1 .1)))
+    (λ c κs. c .before .before .before .before .before .pre .1)
     (λ c κs. search needs)
     (λ c. room c)
     (λ c. sym (length-take-le (c .before .link-words .result) (c .before .before .before .before .number .last .1 .1 .1 .0) (room (c .before))))

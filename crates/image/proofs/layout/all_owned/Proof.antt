@@ -1,9 +1,11 @@
 -- `image::layout::all_owned` meets its contract. Assumes nothing.
 use borrow.Author.Needs.{needs}
+use native.Mathlib.Omega.{arith}
 use borrow.Author.Tests.{not-false, not-true}
 use Rattle.lists.specs.Below.{allOf}
 use Rattle.lists.proofs.Cases.{and-true}
 use Rattle.image.specs.Layout.{allOwned}
+use Rattle.image.proofs.FewLaws.{roomy-in}
 use Rattle.image.proofs.layout.all_owned.Statement.{statement}
 use Rattle.image.proofs.layout.all_owned.Tie as tie
 
@@ -38,16 +40,16 @@ all-owned-spec =
     (λ c κs. search needs)
     (λ c. search needs)
     returns
-    (λ c κs. search needs)
+    (λ c κs. let m = c .before .before .before .before in let b = m .before .before .before .before in (b .pre .0, roomy-in (b .pre .1) (omega (arith, m .messages-owned .kept .1 .1 .1 .0))))
     (λ c. search needs)
     returns-2
-    (λ c κs. search needs)
+    (λ c κs. let e = c .before .before .before .before in let m = e .before .before .before .before .before in let b = m .before .before .before .before in (b .pre .0, roomy-in (b .pre .1) (omega (arith, m .messages-owned .kept .1 .1 .1 .0, e .enums-owned .kept .1 .1 .1 .0))))
     (λ c. search needs)
     returns-3
-    (λ c κs. search needs)
+    (λ c κs. let v = c .before .before .before .before in let e = v .before .before .before .before .before in let m = e .before .before .before .before .before in let b = m .before .before .before .before in (b .pre .0, roomy-in (b .pre .1) (omega (arith, m .messages-owned .kept .1 .1 .1 .0, e .enums-owned .kept .1 .1 .1 .0, v .values-owned .kept .1 .1 .1 .0))))
     (λ c. search needs)
     returns-4
-    (λ c κs. search needs)
+    (λ c κs. let o = c .before .before .before .before in let v = o .before .before .before .before .before in let e = v .before .before .before .before .before in let m = e .before .before .before .before .before in let b = m .before .before .before .before in (b .pre .0, roomy-in (b .pre .1) (omega (arith, m .messages-owned .kept .1 .1 .1 .0, e .enums-owned .kept .1 .1 .1 .0, v .values-owned .kept .1 .1 .1 .0, o .oneofs-owned .kept .1 .1 .1 .0))))
     (λ c. search needs)
     returns-5
     (λ c κs. search needs)

@@ -1,6 +1,5 @@
 -- `image::owners::all_fields_owned` meets its contract. Assumes nothing.
 use borrow.Author.Needs.{needs}
-use native.Mathlib.Omega.{arith}
 use mathlib.Core.Path.{_≡_, sym}
 use lib.ListN.{length, take}
 use Rattle.lists.proofs.Cases.{each}
@@ -13,7 +12,7 @@ use Rattle.image.proofs.owners.all_fields_owned.Tie as tie
 
 -- the marks of the rows
 size : (c : tie.Start) → length (take (c .args .s .fields .count) (c .args .marks .now)) ≡ c .args .s .fields .count
-size c = marks-of (c .args .image .now) (c .args .s) (c .args .pool) (c .args .marks .now) (c .pre .0) (c .pre .1) Field
+size c = marks-of (c .args .s) (c .args .marks .now) (c .pre .1) Field
 
 fields-owned-requires : tie.Need-fields-owned-requires
 unfolding fileRangesFit
@@ -41,7 +40,7 @@ all-fields-owned-spec =
     (tie.spec
     (λ c. search needs)
     (λ c κs. search needs)
-    (λ c. let start = c .before .before .before .before in omega (arith, start .pre .0 .few Field, start .pre .1))
+    (λ c. c .before .before .before .before .pre .1 .few Field)
     (λ c. sym (size (c .before .before .before .before .before)))
     fields-owned-requires
     (λ c. search needs)

@@ -14,7 +14,7 @@ use Rattle.image.proofs.owners.messages_owned.Tie as tie
 
 -- the marks of the rows
 size : (c : tie.Start) → length (take (c .args .s .messages .count) (c .args .marks .now)) ≡ c .args .s .messages .count
-size c = marks-of (c .args .image .now) (c .args .s) (c .args .pool) (c .args .marks .now) (c .pre .0) (c .pre .1) Message
+size c = marks-of (c .args .s) (c .args .marks .now) (c .pre .1) Message
 
 owned-requires : tie.Need-owned-requires
 unfolding fileRangesFit
@@ -37,7 +37,7 @@ messages-owned-spec =
     (λ c. search needs)
     (λ c κs. search needs)
     (λ c κs. search needs)
-    (λ c. let start = c .before .before .before .before .before in omega (arith, start .pre .0 .few Message, start .pre .1))
+    (λ c. c .before .before .before .before .before .pre .1 .few Message)
     (λ c. sym (size (c .before .before .before .before .before .before)))
     owned-requires
     (λ c. search needs)

@@ -27,17 +27,23 @@ abbrev μ-loop : tie.MeasureT-loop
 returns : tie.Need-returns Inv-loop μ-loop
 unfolding filesFit
 returns c =
+    let a = c .before .before .before .args in
+    passing-end (passing-start (a .n) (fits (a .words .now) (a .bytes .now) (a .p))) (omega (arith, c .if1 .taken))
+
+returns-2 : tie.Need-returns-2 Inv-loop μ-loop
+unfolding filesFit
+returns-2 c =
     let t = c .before .before in
-    passing-fails (t .before .before .before .loop .inv .1) (t .before .before .loop-test .taken) (sym (t .file-fits .ensures) ∙ not-true (t .file-fits .result) (c .if1 .taken))
+    passing-fails (t .before .before .before .loop .inv .1) (t .before .before .loop-test .taken) (sym (t .file-fits .ensures) ∙ not-true (t .file-fits .result) (c .if2 .taken))
 
 loop-again : tie.Need-loop-again Inv-loop μ-loop
 loop-again c =
     let t = c .before .before in
-    (t .file-fits .kept .1 .1 .1 .1 .0 ∙ t .before .before .before .loop .inv .0, passing-more (t .before .before .before .loop .inv .1) (t .before .before .loop-test .taken) (sym (t .file-fits .ensures) ∙ not-false (t .file-fits .result) (c .if1 .left)))
+    (t .file-fits .kept .1 .1 .1 .1 .0 ∙ t .before .before .before .loop .inv .0, passing-more (t .before .before .before .loop .inv .1) (t .before .before .loop-test .taken) (sym (t .file-fits .ensures) ∙ not-false (t .file-fits .result) (c .if2 .left)))
 
-returns-2 : tie.Need-returns-2 Inv-loop μ-loop
+returns-3 : tie.Need-returns-3 Inv-loop μ-loop
 unfolding filesFit
-returns-2 c = passing-end (c .before .loop .inv .1) (c .loop-test .left)
+returns-3 c = passing-end (c .before .loop .inv .1) (c .loop-test .left)
 
 pub files-fit-spec : {M : Type 1} → statement M
 files-fit-spec =
@@ -45,11 +51,12 @@ files-fit-spec =
     (tie.spec
     Inv-loop
     μ-loop
-    (λ c. let a = c .before .before .args in (search needs, passing-start (a .n) (fits (a .words .now) (a .bytes .now) (a .p))))
-    (λ c. sym (c .before .before .loop .inv .0))
-    (λ c κs. (omega (arith, c .before .loop-test .taken, c .before .before .before .before .before .pre), omega (arith, c .before .before .loop .inv .0)))
     returns
+    (λ c. let a = c .before .before .before .args in (search needs, passing-start (a .n) (fits (a .words .now) (a .bytes .now) (a .p))))
+    (λ c. sym (c .before .before .loop .inv .0))
+    (λ c κs. (omega (arith, c .before .loop-test .taken, c .before .before .before .before .before .before .pre), omega (arith, c .before .before .loop .inv .0)))
+    returns-2
     (λ c. omega (arith, c .before .before .before .before .loop-test .taken))
     (λ c. omega (arith, c .before .before .before .before .loop-test .taken))
     loop-again
-    returns-2)
+    returns-3)

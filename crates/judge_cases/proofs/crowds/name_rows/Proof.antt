@@ -1,5 +1,4 @@
 -- `judge_cases::crowds::name_rows` ends and is safe. Assumes nothing.
-use Prim.Native.Nat.{_-_}
 use mathlib.Core.Path.{_≡_}
 use lib.ListN.{length}
 use borrow.Author.Needs.{needs}

@@ -62,8 +62,8 @@ behind c =
 place : (c : Read) → c .count-of .result - extensions c .count ≡ firstField (said (start (done c))) (said (start (done c)) .messages)
 place c = omega (arith, behind c)
 
-fits : (c : Read) → c .count-of .result - extensions c .count + extensions c .count ≤ 2048
-fits c = let b = start (done c) in omega (arith, behind c, size c, sound b .few-fields)
+fits : (c : Read) → c .count-of .result - extensions c .count + extensions c .count ≤ said (start (done c)) .fields
+fits c = let b = start (done c) in omega (arith, behind c, size c)
 
 returns : tie.Need-returns
 returns c =
@@ -76,7 +76,7 @@ index-fields-requires c κs =
     let e = c .before .before in
     let f = done e in
     let b = start f in
-    (b .pre .0, (b .pre .1 .0, (b .pre .1 .1 .0, (rw (own-extensions e) (file-inside (said b) (sound b)), (fits e, omega (arith, fits e, f .index-messages .kept .1 .1 .1 .1 .1 .1 .1 .1 .0, b .pre .1 .1 .1 .1 .1))))))
+    (b .pre .0, (b .pre .1 .0, (b .pre .1 .1 .0, (rw (own-extensions e) (file-inside (said b) (sound b)), (omega (arith, fits e, sound b .few-fields), omega (arith, fits e, f .index-messages .kept .1 .1 .1 .1 .1 .1 .1 .1 .0, b .pre .1 .1 .1 .1 .1))))))
 
 returns-2 : tie.Need-returns-2
 returns-2 c =

@@ -77,13 +77,13 @@ inside c = let b = start c in rw (own-fields c) (regular-inside (said b) (sound 
 inside-too : (c : Both) → c .extensions-of .result .first + c .extensions-of .result .count ≤ 2048
 inside-too c = let b = start (read c) in rw (own-extensions c) (extensions-inside (said b) (sound b) (b .args .m .0) (less b))
 
-fits : (c : Read) → getD (link c) 4 0 + c .fields-of .result .count ≤ 2048
+fits : (c : Read) → getD (link c) 4 0 + c .fields-of .result .count ≤ said (start c) .fields
 fits c =
     let b = start c in
     let n = ap (λ (x : Range). x .count) (own-fields c) in
     omega (arith, place c, message-room (said b) (sound b) (b .args .m .0) (less b))
 
-fits-too : (c : Both) → getD (link (read c)) 4 0 + (read c .fields-of .result .count + c .extensions-of .result .count) ≤ 2048
+fits-too : (c : Both) → getD (link (read c)) 4 0 + (read c .fields-of .result .count + c .extensions-of .result .count) ≤ said (start (read c)) .fields
 fits-too c =
     let b = start (read c) in
     let n = ap (λ (x : Range). x .count) (own-fields (read c)) in
@@ -94,7 +94,7 @@ index-fields-requires : tie.Need-index-fields-requires
 index-fields-requires c κs =
     let t = c .before .before in
     let b = start t in
-    (b .pre .0, (b .pre .1 .0, (b .pre .1 .1 .0, (inside t, (fits t, omega (arith, fits t, b .pre .1 .1 .1 .1 .1 .0))))))
+    (b .pre .0, (b .pre .1 .0, (b .pre .1 .1 .0, (inside t, (omega (arith, fits t, sound b .few-fields), omega (arith, fits t, b .pre .1 .1 .1 .1 .1 .0))))))
 
 returns : tie.Need-returns
 returns c =
@@ -107,7 +107,7 @@ judge-clash-requires : tie.Need-judge-clash-requires
 judge-clash-requires c κs =
     let t = c .before .before .before .before .before .before .before in
     let b = start t in
-    (omega (arith, fits t), rw (row t) (omega (arith, regular-inside (said b) (sound b) (b .args .m .0) (less b))))
+    (omega (arith, fits t, sound b .few-fields), rw (row t) (omega (arith, regular-inside (said b) (sound b) (b .args .m .0) (less b))))
 
 returns-2 : tie.Need-returns-2
 returns-2 c =
@@ -122,7 +122,7 @@ index-fields-requires-2 c κs =
     let e = c .before .before .before in
     let b = start (read e) in
     let f = c .before .before .before .before .before .before .before .before .before .before .before in
-    (b .pre .0, (b .pre .1 .0, (b .pre .1 .1 .0, (inside-too e, (omega (arith, fits-too e), omega (arith, fits-too e, f .index-fields .kept .1 .1 .1 .1 .1 .1 .1 .1 .1 .1 .1 .1 .0, b .pre .1 .1 .1 .1 .1 .0))))))
+    (b .pre .0, (b .pre .1 .0, (b .pre .1 .1 .0, (inside-too e, (omega (arith, fits-too e, sound b .few-fields), omega (arith, fits-too e, f .index-fields .kept .1 .1 .1 .1 .1 .1 .1 .1 .1 .1 .1 .1 .0, b .pre .1 .1 .1 .1 .1 .0))))))
 
 returns-3 : tie.Need-returns-3
 returns-3 c =
@@ -159,7 +159,7 @@ index-message-spec =
     (λ c. search needs)
     (λ c κs. search needs)
     (λ c. let b = start (read (c .before)) in omega (arith, less b, sound b .few-messages))
-    (λ c. omega (arith, fits-too (c .before .before)))
+    (λ c. let e = c .before .before in omega (arith, fits-too e, sound (start (read e)) .few-fields))
     index-fields-requires-2
     (λ c. c .before .before .index-fields2 .kept .1 .1 .1 .1 .1 .1 .1 .1 .1 .1 .1 .1 .0 ∙ c .before .before .before .before .before .before .before .before .before .before .before .before .before .before .index-fields .kept .1 .1 .1 .1 .1 .1 .1 .1 .1 .1 .1 .1 .0)
     returns-3)

@@ -7,10 +7,10 @@ use lib.ListN.{length, getD}
 use Rattle.image.specs.Schema.{Schema, schemaIn}
 use Rattle.image.specs.Flat.{firstField}
 use Rattle.image.proofs.SchemaLaws.{messages-in}
-use Rattle.image.proofs.FieldListLaws.{fields-room}
+use Rattle.image.proofs.FieldListLaws.{fields-within}
 use Rattle.link.specs.Edges.{refersBelow, Pushed}
 use Rattle.link.proofs.EdgeLaws.{messages-none, messages-next, messages-all}
-use Rattle.link.proofs.CauseLaws.{link-count, link-refers, fields-behind, few-behind}
+use Rattle.link.proofs.CauseLaws.{link-count, link-refers, fields-behind}
 use Rattle.link.proofs.is_initialized_is_always_true.collect_references.Statement.{statement}
 use Rattle.link.proofs.is_initialized_is_always_true.collect_references.Tie as tie
 
@@ -46,7 +46,7 @@ push-rows-requires : tie.Need-push-rows-requires Inv-loop μ-loop
 push-rows-requires c κs =
     let t = c .before in
     let l = t .before .before .before .loop in
-    (omega (arith, behind t, few-behind (said t) (start t .pre .0) (at t) (less t), l .inv .1, l .inv .2 .few, start t .pre .1 .1), t .before .if1 .taken)
+    (omega (arith, behind t, fields-within (said t) (start t .pre .0) (at t + 1) (omega (arith, less t)), l .inv .1, l .inv .2 .few, start t .pre .1 .1), t .before .if1 .taken)
 
 loop-again : tie.Need-loop-again Inv-loop μ-loop
 loop-again c =
@@ -68,8 +68,8 @@ returns c =
     let l = c .before .before .loop in
     let g = schemaIn (a .image .now) (a .s) (a .pool .now) in
     let n = messages-in (a .image .now) (a .s) (a .pool .now) in
-    messages-all g (a .fields .now) (a .own) (a .s .messages .count) (l .m) 4096 n (omega (arith, l .inv .0, c .if1 .left))
-    (omega (arith, fields-room g (b .pre .0) (l .m) (omega (arith, n, l .inv .0)))) (l .inv .2)
+    messages-all g (a .fields .now) (a .own) (a .s .messages .count) (l .m) (g .fields * 2) n (omega (arith, l .inv .0, c .if1 .left))
+    (omega (arith, fields-within g (b .pre .0) (l .m) (omega (arith, n, l .inv .0)))) (l .inv .2)
 
 pub collect-references-spec : {M : Type 1} → statement M
 collect-references-spec =

@@ -1,74 +1,42 @@
--- `link::is_initialized_is_always_true::compute_marks` meets its contract. Assumes nothing.
+-- `link::is_initialized_is_always_true::compute_marks` meets its contract: each array has two words for each of two references of a field. Assumes nothing.
 use borrow.Author.Needs.{needs}
-use mathlib.Core.Path.{_≡_, sym, ap, _∙_}
-use Prim.Native.Nat.{ℕ, _+_, _≤_}
+use mathlib.Core.Path.{_≡_}
+use Prim.Native.Nat.{ℕ}
 use native.Mathlib.Omega.{arith}
-use Rattle.lists.proofs.TableLaws.{length-table}
-use Rattle.image.specs.Schema.{Schema, schemaIn, schemaOf}
-use Rattle.image.specs.Places.{fileIn}
-use Rattle.image.specs.declared.rows.Sections.{Sections}
-use Rattle.image.proofs.SchemaLaws.{schema-of, messages-in}
-use Rattle.link.specs.Sight.{sightOf}
-use Rattle.link.proofs.GraphLaws.{inside-all, sound-as, indexed-as, few-as, marks-all}
+use lib.ListN.{length-replicate}
+use Rattle.image.specs.Schema.{schemaOf}
+use Rattle.link.proofs.FileIndexLaws.{fields-said}
 use Rattle.link.proofs.is_initialized_is_always_true.compute_marks.Statement.{statement}
 use Rattle.link.proofs.is_initialized_is_always_true.compute_marks.Tie as tie
 
-abbrev start : tie.After-read-sections → tie.Start
-start c = c .before .before .before .before .before .before .before
+-- the number of fields is read
+abbrev start : tie.After-count-of → tie.Start
+start c = c .before .before .before .before .before .before .before .before
 
--- what the image says, in the words of the code
-abbrev read : tie.After-read-sections → Schema
-read c = let a = start c .args in schemaIn (a .image .now) (c .read-sections .result) (a .pool .now)
+size : (c : tie.After-count-of) → c .count-of .result ≡ schemaOf (start c .args .image .now) (start c .args .pool .now) .fields
+size c = let a = start c .args in fields-said (a .image .now) (a .pool .now) (c .before .read-sections .ensures) (c .count-of .ensures)
 
-said : (c : tie.After-read-sections) → read c ≡ schemaOf (start c .args .image .now) (start c .args .pool .now)
-said c =
-    let a = start c .args in
-    ap (λ (x : Sections). schemaIn (a .image .now) x (a .pool .now)) (c .read-sections .ensures) ∙ sym (schema-of (a .image .now) (a .pool .now))
-
--- the number of messages is read
-size : (c : tie.After-count-of) → c .count-of .result ≡ read (c .before .before .before .before .before .before) .messages
-size c =
-    let r = c .before .before .before .before .before .before in
-    let a = start r .args in
-    c .count-of .ensures ∙ sym (messages-in (a .image .now) (r .read-sections .result) (a .pool .now))
-
-few : (c : tie.After-count-of) → c .count-of .result ≤ 256
-few c = omega (arith, size c, few-as (said (c .before .before .before .before .before .before)) (start (c .before .before .before .before .before .before) .pre .1 .0))
-
-collect-causes-requires : tie.Need-collect-causes-requires
-collect-causes-requires c κs = let b = start c in (indexed-as (said c) (b .pre .1 .0) (b .pre .1 .1), few-as (said c) (b .pre .1 .0))
-
-collect-references-requires : tie.Need-collect-references-requires
-collect-references-requires c κs =
-    let r = c .before .before .before in
-    let b = start r in
-    (sound-as (said r) (b .pre .1 .0), (indexed-as (said r) (b .pre .1 .0) (b .pre .1 .1), search needs))
-
-distances-requires : tie.Need-distances-requires
-distances-requires c κs =
-    let p = c .before .before .before .before .collect-references in
+marks-in-requires : tie.Need-marks-in-requires
+marks-in-requires c κs =
     let t = c .before .before in
-    (few t, omega (arith, p .ensures .few, p .kept .1 .1 .1 .1 .1 .1 .0), inside-all (size t) (p .ensures))
+    let b = start t in
+    (b .pre .0, (b .pre .1 .0, (b .pre .1 .1, omega (arith, size t, c .before .if1 .taken, length-replicate {A = ℕ} 512 0))))
 
-returns : tie.Need-returns
-returns c i h =
-    let r = c .before .before .before .before .before .before .before .before .before in
-    let a = start r .args in
-    marks-all (sightOf (a .words .now) (a .bytes .now) (a .p) (a .n) (a .image .now) (a .pool .now) (a .links .now)) (a .fields .now) (c .before .before .before .before .before .before .before .before .collect-causes .result .d) (a .n + 1)
-    (said r) (size (c .before .before .before)) (ap (λ (k : ℕ). k + 1) (sym (length-table (a .n) (fileIn (a .words .now) (a .bytes .now) (a .p))))) (c .before .before .before .before .before .collect-references .ensures) (c .before .before .before .before .before .before .before .before .collect-causes .ensures)
-    (few (c .before .before .before)) (c .distances .ensures) i h
+marks-in-requires-2 : tie.Need-marks-in-requires-2
+marks-in-requires-2 c κs =
+    let t = c .before .before in
+    let b = start t in
+    (b .pre .0, (b .pre .1 .0, (b .pre .1 .1, omega (arith, b .pre .1 .0 .few-fields, length-replicate {A = ℕ} 8192 0))))
 
 pub compute-marks-spec : {M : Type 1} → statement M
 compute-marks-spec =
     tie.close
     (tie.spec
     (λ c κs. search needs)
-    collect-causes-requires
-    (λ c. omega (arith, c .before .before .before .before .before .before .before .before .before .pre .0))
-    (λ c. search needs)
-    collect-references-requires
     (λ c κs. search needs)
     (λ c. search needs)
+    marks-in-requires
+    (λ c. c .before .marks-in .ensures)
     (λ c. search needs)
-    distances-requires
-    returns)
+    marks-in-requires-2
+    (λ c. c .before .marks-in2 .ensures))

@@ -14,7 +14,7 @@ use Rattle.link.specs.Search.{searched}
 use Rattle.link.specs.Rows.{allLinks}
 use Rattle.link.specs.Refusals.{Call, said, seen}
 use Rattle.link.specs.Phases.{callOf}
-use Rattle.link.proofs.PhaseLaws.{words-short, bytes-short, image-short, pool-short, front-words, fields-words, messages-words, few-files, all-sound, all-words, all-bytes, all-files, used-is, own-taken, links-done}
+use Rattle.link.proofs.PhaseLaws.{words-short, bytes-short, image-short, pool-short, front-words, fields-words, messages-words, few-files, all-opened, all-sound, all-words, all-bytes, all-files, used-is, own-taken, links-done}
 use Rattle.link.proofs.link.accept.Statement.{statement}
 use Rattle.link.proofs.link.accept.Tie as tie
 
@@ -32,10 +32,10 @@ behind : (c : tie.After-field-words) → c .field-words .result ≡ said (call (
 behind c = let a = start c .args in c .field-words .ensures ∙ fields-words (a .image .now) (a .pool .now) (c .before .before .read-sections .ensures)
 
 links-room : (c : tie.After-field-words) → c .before .link-words .result ≤ length (start c .args .links .now)
-links-room c = let b = start c in let k = call b in omega (arith, front c, links-few (said k) (all-sound k (b .pre .1 .0)), b .pre .1 .1 .0)
+links-room c = let b = start c in let k = call b in omega (arith, front c, b .pre .1 .1 .0 .links-fit (all-opened k (b .pre .1 .0)))
 
 rows-room : (c : tie.After-field-words) → c .field-words .result ≤ length (start c .args .rows .now)
-rows-room c = let b = start c in let k = call b in omega (arith, behind c, all-sound k (b .pre .1 .0) .few-fields, b .pre .1 .1 .1 .1 .0)
+rows-room c = let b = start c in let k = call b in omega (arith, behind c, b .pre .1 .1 .0 .rows-fit (all-opened k (b .pre .1 .0)))
 
 -- the same behind the marks
 marked-room : (c : tie.After-put-marks) → c .before .before .before .before .before .before .before .before .before .before .link-words .result ≤ length (c .put-marks .last .0)
@@ -46,7 +46,7 @@ compute-marks-requires c κs =
     let f = c .before .before .before .before in
     let b = start f in
     let k = call b in
-    (few-files k (b .pre .0), (all-sound k (b .pre .1 .0), own-taken k (b .pre .1 .0) (front f) (behind f) (b .pre .0) (b .args .links .now) (b .args .rows .now) (b .pre .1 .1 .1 .0) (b .pre .1 .1 .1 .1 .1)))
+    (few-files k (b .pre .0), (all-sound k (b .pre .1 .0), own-taken k (b .pre .1 .0) (front f) (behind f) (b .pre .0) (b .args .links .now) (b .args .rows .now) (b .pre .1 .1 .1 .0) (b .pre .1 .1 .1 .1)))
 
 counted : (c : tie.After-count-of) → c .count-of .result ≡ said (call (start (c .before .before .before .before .before .before .before .before))) .messages
 counted c = let f = c .before .before .before .before .before .before .before .before in let a = start f .args in c .count-of .ensures ∙ messages-words (a .image .now) (a .pool .now) (f .before .before .read-sections .ensures)
@@ -56,7 +56,7 @@ put-marks-requires c κs =
     let f = c .before .before .before .before .before .before .before .before in
     let b = start f in
     let ok = all-sound (call b) (b .pre .1 .0) in
-    (omega (arith, counted c, ok .few-messages), omega (arith, counted c, ok .few-messages, b .pre .1 .1 .0))
+    (omega (arith, counted c, ok .few-messages), omega (arith, counted c, b .pre .1 .1 .0 .links-fit (all-opened (call b) (b .pre .1 .0))))
 
 write-requires : tie.Need-write-requires
 write-requires c κs =
@@ -87,7 +87,7 @@ done c =
     let f = c .before .before .before .before .before .before .before .before .before in
     let b = start f in
     let marks = c .before .before .before .before .compute-marks in
-    links-done (call b) (b .pre .1 .0) (front f) (behind f) (b .pre .0) (b .args .links .now) (b .args .rows .now) (b .pre .1 .1 .1 .0) (b .pre .1 .1 .1 .1 .1) (marks .result .d) (counted (c .before)) (marks .ensures) (c .put-marks .ensures)
+    links-done (call b) (b .pre .1 .0) (front f) (behind f) (b .pre .0) (b .args .links .now) (b .args .rows .now) (b .pre .1 .1 .1 .0) (b .pre .1 .1 .1 .1) (marks .result .d) (counted (c .before)) (marks .ensures) (c .put-marks .ensures)
 
 returns : tie.Need-returns
 returns c =

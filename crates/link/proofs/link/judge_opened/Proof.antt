@@ -9,11 +9,10 @@ use lib.Seq.{length-take-le}
 use Rattle.image.specs.Links.{linkWords}
 use Rattle.image.specs.Shelf.{fileLimit}
 use Rattle.image.specs.Judge.{openingLines}
-use Rattle.image.proofs.JudgeLaws.{links-few}
 use Rattle.link.specs.Refusals.{Call, said}
 use Rattle.link.specs.Phases.{callOf, fromName}
 use Rattle.link.proofs.FileIndexLaws.{not-passed}
-use Rattle.link.proofs.PhaseLaws.{stops-here, goes-on, front-words, sound-said, opened-judged, opened-passed, naming-judged, links-written}
+use Rattle.link.proofs.PhaseLaws.{stops-here, goes-on, front-words, opened-judged, opened-passed, naming-judged, links-written}
 use Rattle.link.proofs.link.judge_opened.Statement.{statement}
 use Rattle.link.proofs.link.judge_opened.Tie as tie
 
@@ -31,8 +30,8 @@ room : (c : tie.After-link-words) → c .link-words .result ≤ length (c .befor
 room c =
     let x = c .before .before .before .before .before .before in
     let b = start x in
-    let ok = sound-said (call b) (opened-passed (call b) refl (x .judge-image .ensures .0) (c .before .before .enum-told .given .1)) in
-    omega (arith, counted c, links-few (said (call b)) ok, b .pre .1 .0, x .judge-image .kept .1 .1 .1 .0)
+    let fits = b .pre .1 .links-fit (opened-passed (call b) refl (x .judge-image .ensures .0) (c .before .before .enum-told .given .1)) in
+    omega (arith, counted c, fits, x .judge-image .kept .1 .1 .1 .0)
 
 judge-seen-requires : tie.Need-judge-seen-requires
 judge-seen-requires c κs =
@@ -42,7 +41,8 @@ judge-seen-requires c κs =
     let k = call b in
     let passed = w .before .before .enum-told .given .1 in
     let h = x .judge-image .ensures .0 in
-    (b .pre .0, (opened-passed k refl h passed, (naming-judged k refl h passed, (ap (λ (n : ℕ). take n (x .judge-image .last .1 .1 .1 .0)) (counted w) ∙ links-written k refl h passed (b .args .links .now) (b .pre .1 .0) (x .judge-image .ensures .1), b .pre .1 .1))))
+    let opened = opened-passed k refl h passed in
+    (b .pre .0, (opened, (naming-judged k refl h passed, (ap (λ (n : ℕ). take n (x .judge-image .last .1 .1 .1 .0)) (counted w) ∙ links-written k refl h passed (b .args .links .now) (b .pre .1 .links-fit opened) (x .judge-image .ensures .1), b .pre .1 .rows-fit opened))))
 
 returns : tie.Need-returns
 returns c =
@@ -59,7 +59,7 @@ returns-2 c =
     let h = x .judge-image .ensures .0 in
     let s = c .before .before .judge-seen in (
       goes-on (openingLines (k .image) (k .pool) (leb fileLimit (k .used .files))) (fromName k) (opened-judged k refl h) passed (s .ensures .0),
-      (λ _. links-written k refl h passed (b .args .links .now) (b .pre .1 .0) (x .judge-image .ensures .1), s .ensures .1),
+      (λ _. links-written k refl h passed (b .args .links .now) (b .pre .1 .links-fit (opened-passed k refl h passed)) (x .judge-image .ensures .1), s .ensures .1),
     )
 
 pub judge-opened-spec : {M : Type 1} → statement M

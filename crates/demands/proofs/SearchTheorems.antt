@@ -1,7 +1,7 @@
--- The files of the search list are exactly those that are reached: the direct imports, and the public imports of files that are reached.
--- Assumes nothing.
+-- The files of the search list are exactly those that are reached: the direct imports, and the public imports of files that are reached. Each
+-- is in it once. Assumes nothing.
 use mathlib.Core.Path.{_≡_, refl, sym, _∙_}
-use mathlib.Core.Bool.{true, false}
+use mathlib.Core.Bool.{true, false, _||_}
 use mathlib.Core.List.{List, [], _∷_, _++_}
 use mathlib.Core.Logic.{_⊎_, inl, inr}
 use Prim.Native.Nat.{ℕ, zero, suc, _<_}
@@ -10,11 +10,27 @@ use lib.Dec.{eqb}
 use borrow.Author.Tests.{eq-eqb, eqb-true}
 use Rattle.lists.proofs.Cases.{by, either, clash}
 use Rattle.link.specs.Search.{has, firstToLast, lastToFirst, visit, searchList, Below}
+use Rattle.link.proofs.SearchLaws.{search-keeps}
 use Rattle.link.proofs.VisitLaws.{Earlier, has-more, has-last}
 
 pub data Reached (publics : ℕ → List ℕ) (direct : List ℕ) : ℕ → Type 0 where
   imported : {f : ℕ} → has f direct ≡ true → Reached publics direct f
   onward : {f g : ℕ} → Reached publics direct f → has g (publics f) ≡ true → Reached publics direct g
+
+-- no file is in a list twice
+abbrev pub Once : List ℕ → Type 0
+Once [] = Unit
+Once (f ∷ fs) = (has f fs ≡ false) × Once fs
+
+once-more : (l : List ℕ) (f : ℕ) → has f l ≡ false → Once l → Once (l ++ (f ∷ []))
+unfolding has
+once-more [] f h o = (refl, tt)
+once-more (g ∷ l) f h o =
+    by (eqb g f)
+    (λ t. clash (eqb f g || has f l) (simp (eq-eqb f g (sym (eqb-true g f t)))) h)
+    (λ t. by (has f l)
+    (λ u. clash (eqb f g || has f l) (by (eqb f g) (λ v. simp v) (λ v. simp (v, u))) h)
+    (λ u. (has-more g f l ∙ simp (o .0, t), once-more l f u (o .1))))
 
 -- ---- files of lists, by cases
 
@@ -133,3 +149,6 @@ module _ (publics : ℕ → List ℕ) where
       unfolding has
       search-complete g (imported h) = search-grown .got g h
       search-complete g (onward {f} r h) = search-grown .whole f g (search-complete f r) refl h
+
+      pub search-once : Once (searchList publics n direct)
+      search-once = search-keeps (λ l. Once l) n publics earlier (λ l f h t p. once-more l f t p) direct inside tt
