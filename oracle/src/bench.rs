@@ -162,7 +162,7 @@ pub fn run(rows: &mut String) -> Result<String, String> {
         format!("## Real files, every {NEARLY_FULL_EVERY}th, on a shelf that is nearly full");
     let parts = [
         (
-            "## Real files, each behind exactly the files that it imports",
+            "## Real files, each behind its imports and theirs",
             classes(&alone),
         ),
         ("The largest files:", greatest(&alone, |r| r.words as f64)),

@@ -8,6 +8,7 @@ mod answers;
 mod bench;
 mod case;
 mod compare;
+mod crowded;
 mod damage;
 mod domain;
 mod files;
@@ -42,13 +43,13 @@ use std::process::ExitCode;
 use case::Case;
 
 const USAGE: &str =
-    "usage: oracle cases real|random|purpose|limits|damage [--seed N] [--count N] [-o FILE]
+    "usage: oracle cases real|random|purpose|limits|crowded|damage [--seed N] [--count N] [-o FILE]
        oracle compile FILES PROTOC OUT
        oracle stored DIR
        oracle answers CASES [-o FILE]
        oracle compare CASES CRATE_ANSWERS OUR_ANSWERS [--keep FILE]
-       oracle linked real|random|purpose|limits|damage|CASES [--seed N] [--count N] [--every N] [--keep FILE]
-       oracle spoil real|random|purpose|limits|damage|CASES [--seed N] [--count N]
+       oracle linked real|random|purpose|limits|crowded|damage|CASES [--seed N] [--count N] [--every N] [--keep FILE]
+       oracle spoil real|random|purpose|limits|crowded|damage|CASES [--seed N] [--count N]
        oracle bench [--rows FILE]
        oracle show CASES NAME
        oracle image SET -o FOLDER";

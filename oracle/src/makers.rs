@@ -3,9 +3,9 @@
 use std::path::Path;
 
 use crate::case::{self, Case};
-use crate::{damage, limits, purpose, random, real};
+use crate::{crowded, damage, limits, purpose, random, real};
 
-pub const KINDS: &str = "real|random|purpose|limits|damage";
+pub const KINDS: &str = "real|random|purpose|limits|crowded|damage";
 const SEED: u64 = 1;
 const COUNT: usize = 4000;
 
@@ -24,6 +24,7 @@ pub fn make(
         "random" => random::cases(seed, count),
         "purpose" => purpose::cases(),
         "limits" => limits::cases(),
+        "crowded" => crowded::cases(),
         "damage" => damage::cases(seed, count),
         other => return Err(format!("there are no cases of the kind `{other}`: {KINDS}")),
     };
