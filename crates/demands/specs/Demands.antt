@@ -55,7 +55,7 @@ pub record Unchanged (c : Call) : Type 0 where
 abbrev pub RefusalLeaves : Call → Type 0
 RefusalLeaves c = (r : Refusal) (p : ℕ) → linked c .answer ≡ Refused r p → Unchanged c
 
--- `vs` has room in `was` behind place `at`, and stands there in `now`; before it, behind it and in length all is as in `was`
+-- `vs` has room in `was` from place `at` on, and stands there in `now`; before it, behind it and in length all is as in `was`
 pub record Written (was now vs : List ℕ) (at : ℕ) : Type 0 where
   pub room : at + length vs ≤ length was
   pub size : length now ≡ length was

@@ -1,5 +1,5 @@
 -- Rule 17, of one message row, and the lookups of regular fields: by number, by own name, by own or JSON name. What they answer is the
--- field's place in its message; its flat number is that behind the message's first field. Rows owned as extensions take no part.
+-- field's place in its message; its flat number is that of the message's first field plus this place. Rows owned as extensions take no part.
 -- Assumes nothing.
 use mathlib.Core.List.{List}
 use mathlib.Core.Bool.{Bool, cond, _||_}

@@ -36,11 +36,11 @@ pub record Ranged (image : List ℕ) (s : Sections) (pool : ℕ) : Type 0 where
   pub messages : rowsFit image s pool Message ≡ true
   pub enums : rowsFit image s pool Enum ≡ true
 
--- n marks are enough for the rows of any section
+-- n marks are enough for the rows of every section
 pub record Roomy (s : Sections) (n : ℕ) : Type 0 where
   pub few : (kind : Kind) → sectionOf s kind .count ≤ n
 
--- the same as a test
+-- the same as tests
 abbrev pub roomTests : Sections → ℕ → List Bool
 roomTests s n =
     leb (s .imports .count) n

@@ -10,7 +10,7 @@ use Rattle.image.specs.Schema.{FieldSays}
 use Rattle.image.specs.Clash.{jsonNameOf}
 use Rattle.image.specs.declared.fields.Keys.{Keys}
 
--- by what a field is told apart
+-- what the three marks of a field are made from
 unfoldable pub keysOf : FieldSays → Keys
 keysOf f = record { number = f .number; name = textKey (f .name); json = textKey (jsonNameOf f) }
 

@@ -15,7 +15,7 @@ ghost use Rattle.image.specs.Schema.{fieldOf, schemaIn};
 ghost use Rattle.image.specs.Clash.{jsonNameOf, isCalled, clash, clashesEarlier, firstClash, fieldByNumber, fieldByName, fieldByNameOrJson};
 ghost use Rattle.image.specs.Seen.{keysOf, markOf, isSeen, anySeen, markBehind, see, seeAll};
 
-// Where a field leaves marks: its number, and the keys of its own name and its JSON name.
+// What the three marks of a field are made from: its number, and the keys of its own name and its JSON name.
 pub struct Keys {
     pub number: u32,
     pub name: u32,
@@ -115,7 +115,8 @@ fn keys_of(row: &[u32], pool: &[u8]) -> Keys
     }
 }
 
-// The mark that a key leaves at its place, of n: from 1 to 254, so that keys of one place mostly differ in it.
+// The mark that a key leaves at its place, of n: from 1 to 254, since 0 says that none was left there and 255 that several were. It is made from
+// the part of the key that does not say its place, so that keys of one place mostly differ in it.
 fn mark_of(key: u32, n: usize) -> u8
     requires { ⌜ 0 < n ⌝ }
     ensures { λ r. ⌜ r ≡ markOf n key ⌝ }

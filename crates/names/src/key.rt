@@ -11,6 +11,7 @@ fn key_behind(key: u32, b: u8) -> u32
     ((key as u64 * 40503 + b as u64) % 4294967296) as u32
 }
 
+// The key of a text.
 pub fn text_key(s: &[u8]) -> u32
     ensures { λ r. ⌜ r ≡ textKey (now (s .entry)) ⌝ }
 {
