@@ -17,6 +17,7 @@ pub mod DotLaws
 pub mod ItemLaws
 pub mod LookupLaws
 pub mod SiblingLaws
+pub mod TwinLaws
 pub mod NamedLaws
 pub mod ShortLaws
 pub mod WriteLaws

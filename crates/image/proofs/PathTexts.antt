@@ -6,13 +6,13 @@ use Prim.Native.Nat.{ℕ, suc, _+_, _-_, _≤_, _<_}
 use native.Mathlib.Omega.{arith}
 use lib.Dec.{leb, eqb}
 use lib.ListN.{length, getD, take, drop, length-append, take-append-drop}
-use lib.Seq.{drop-at, drop-cons}
-use borrow.Author.Tests.{ne-eqb, le-leb, lt-leb, leb-true}
+use lib.Seq.{drop-at, drop-cons, getD-drop}
+use borrow.Author.Tests.{eq-eqb, ne-eqb, le-leb, lt-leb, leb-true}
 use Rattle.lists.specs.Lists.{same, isEmpty}
 use Rattle.lists.proofs.Cases.{clash, left, right, and-true}
 use Rattle.lists.proofs.ListLaws.{same-refl, same-is, same-differ, same-append}
 use Rattle.names.specs.Package.{concatPaths}
-use Rattle.image.specs.Climb.{joinedLength, lead}
+use Rattle.image.specs.Climb.{joinedLength, lastByte, lead, mayEnd}
 use Rattle.image.specs.MapEntry.{endsWith}
 use Rattle.image.proofs.TextLaws.{empty-some}
 
@@ -122,3 +122,46 @@ module _ (w t : List ℕ) where
   pub ends-dot : length t < length w
       → endsWith w (46 ∷ t) ≡ eqb (getD w (length w - length t - 1) 0) 46 && same (drop (length w - length t) w) t
   ends-dot h = ends-at (length w - length t - 1) (omega arith) (omega arith) h
+
+-- ---- a text that does not end as a name does is no path of what has that name
+
+-- test by test
+pub may-nameless : (w t : List ℕ) → length t ≡ 0 → mayEnd w t ≡ true
+unfolding mayEnd isEmpty
+may-nameless w [] h = refl
+may-nameless w (b ∷ t) h = absurd (omega arith)
+
+module _ (w t : List ℕ) (some : length t ≡ 0 → ⊥) where
+  pub may-short : length w < length t → mayEnd w t ≡ false
+  unfolding mayEnd
+  may-short h = simp (empty-some t some, lt-leb (length t) (length w) h)
+
+  pub may-byte : length t ≤ length w → mayEnd w t ≡ eqb (lastByte w) (lastByte t)
+  unfolding mayEnd
+  may-byte h = simp (empty-some t some, le-leb (length t) (length w) h)
+
+ends-bytes : (w t : List ℕ) → endsWith w t ≡ true → 0 < length t → lastByte w ≡ lastByte t
+ends-bytes w t e h =
+    let l = ends-length w t e in
+    let tail = same-is (drop (length w - length t) w) t (right (leb (length t) (length w)) (same (drop (length w - length t) w) t) e) in
+    let n : length w - 1 ≡ length w - length t + (length t - 1) = omega arith in
+    ap (λ (k : ℕ). getD w k 0) n
+    ∙ sym (getD-drop (length w - length t) w (length t - 1) 0)
+    ∙ ap (λ (l : List ℕ). getD l (length t - 1) 0) tail
+
+joined-ends : (s t : List ℕ) → endsWith (concatPaths s t) t ≡ true
+unfolding concatPaths
+joined-ends [] t = ends-append [] t
+joined-ends (a ∷ s) [] = ends-append [] []
+joined-ends (a ∷ s) (b ∷ t) =
+    sym (ap (λ (l : List ℕ). endsWith l (b ∷ t)) (append-assoc (a ∷ s) (46 ∷ []) (b ∷ t))) ∙ ends-append ((a ∷ s) ++ 46 ∷ []) (b ∷ t)
+
+joined-may : (s t : List ℕ) → mayEnd (concatPaths s t) t ≡ true
+joined-may s [] = may-nameless (concatPaths s []) [] refl
+joined-may s (b ∷ t) =
+    let w = concatPaths s (b ∷ t) in
+    let e = joined-ends s (b ∷ t) in
+    may-byte w (b ∷ t) (λ z. omega arith) (ends-length w (b ∷ t) e) ∙ eq-eqb (lastByte w) (lastByte (b ∷ t)) (ends-bytes w (b ∷ t) e (omega arith))
+
+pub may-not : (w s t : List ℕ) → mayEnd w t ≡ false → same w (concatPaths s t) ≡ false
+may-not w s t e = same-differ w (concatPaths s t) (λ q. clash (mayEnd w t) (rw q (joined-may s t)) e)

@@ -1,4 +1,4 @@
--- Laws of the marks by which fields are told apart. Assumes nothing.
+-- Laws of a table of marks, and of the marks by which fields are told apart. Assumes nothing.
 use Prim.Native.Nat.{ℕ, _+_, _/_, _<_}
 use native.Mathlib.Nat.{mod-lt}
 use native.Mathlib.Numerals.{add-one}
@@ -65,7 +65,7 @@ module _ (seen : List ℕ) (key : ℕ) where
   abbrev left : ℕ
   left = markBehind (getD seen place 0) (markOf (length seen) key)
 
-  length-see : length (see seen key) ≡ length seen
+  pub length-see : length (see seen key) ≡ length seen
   unfolding see
   length-see = length-set seen place left
 
@@ -78,12 +78,12 @@ module _ (seen : List ℕ) (key : ℕ) where
     unfolding see
     here p e = rw e (getD-set-same seen place left 0 (mod-lt key h))
 
-    see-marks : isSeen (see seen key) key ≡ true
+    pub see-marks : isSeen (see seen key) key ≡ true
     unfolding isSeen
     see-marks = rw (length-see, here place refl) (mark-left (getD seen place 0) (markOf (length seen) key))
 
     -- what is seen stays so
-    see-keeps : (other : ℕ) → isSeen seen other ≡ true → isSeen (see seen key) other ≡ true
+    pub see-keeps : (other : ℕ) → isSeen seen other ≡ true → isSeen (see seen key) other ≡ true
     unfolding isSeen
     see-keeps other m =
         let n = length seen in

@@ -1,9 +1,10 @@
 -- How full names are gone through: up the enclosing chain, level by level, as long as there are names. A message without a name has an
 -- empty path, so that what stands in it is joined with nothing. Assumes nothing.
 use mathlib.Core.List.{List, []}
-use mathlib.Core.Bool.{cond}
-use Prim.Native.Nat.{ℕ, zero, suc, _+_}
-use lib.Dec.{eqb}
+use mathlib.Core.Bool.{Bool, cond, _&&_, _||_}
+use Prim.Native.Nat.{ℕ, zero, suc, _+_, _-_}
+use lib.Dec.{eqb, leb}
+use lib.ListN.{length, getD}
 use Rattle.lists.specs.Lists.{isEmpty}
 use Rattle.names.specs.Package.{concatPaths}
 use Rattle.names.specs.declared.name.Fronted.{Fronted}
@@ -29,6 +30,15 @@ messageAbove g links = pathAbove (nameOf g links) (messageUp links)
 unfoldable pub namedUp : (ℕ → List ℕ) → (ℕ → ℕ) → ℕ → ℕ → ℕ
 unfolding pathAbove isEmpty
 namedUp name up levels a = cond (isEmpty (pathAbove name up levels a)) 0 a
+
+-- the last byte of a text
+abbrev pub lastByte : List ℕ → ℕ
+lastByte s = getD s (length s - 1) 0
+
+-- a text may end in a name: it is not shorter, and ends in the same byte
+unfoldable pub mayEnd : List ℕ → List ℕ → Bool
+unfolding isEmpty
+mayEnd text name = isEmpty name || (leb (length name) (length text) && eqb (lastByte text) (lastByte name))
 
 -- how long two joined names are, by their lengths
 abbrev pub joinedLength : ℕ → ℕ → ℕ

@@ -3,6 +3,7 @@ use crate::rows;
 use crate::rows::Found;
 use crate::rows::Row;
 use crate::rows::Sections;
+use crate::seen;
 use crate::texts;
 use names::bytes;
 use names::json_name;
@@ -13,13 +14,13 @@ ghost use lib.ListN.{length};
 ghost use Rattle.names.specs.Json.{derivedJsonName};
 ghost use Rattle.image.specs.Schema.{fieldOf, schemaIn};
 ghost use Rattle.image.specs.Clash.{jsonNameOf, isCalled, clash, clashesEarlier, firstClash, fieldByNumber, fieldByName, fieldByNameOrJson};
-ghost use Rattle.image.specs.Seen.{keysOf, markOf, isSeen, anySeen, markBehind, see, seeAll};
+ghost use Rattle.image.specs.Seen.{keysOf, anySeen, seeAll};
 
 // What the three marks of a field are made from: its number, and the keys of its own name and its JSON name.
-pub struct Keys {
-    pub number: u32,
-    pub name: u32,
-    pub json: u32,
+struct Keys {
+    number: u32,
+    name: u32,
+    json: u32,
 }
 
 // Whether a text is the own name or the JSON name of the field whose row is lent.
@@ -115,63 +116,18 @@ fn keys_of(row: &[u32], pool: &[u8]) -> Keys
     }
 }
 
-// The mark that a key leaves at its place, of n: from 1 to 254, since 0 says that none was left there and 255 that several were. It is made from
-// the part of the key that does not say its place, so that keys of one place mostly differ in it.
-fn mark_of(key: u32, n: usize) -> u8
-    requires { ⌜ 0 < n ⌝ }
-    ensures { λ r. ⌜ r ≡ markOf n key ⌝ }
-{
-    (key as usize / n % 254 + 1) as u8
-}
-
-// Whether a key's place has its mark, or several.
-fn is_seen(seen: &[u8], key: u32) -> bool
-    requires { ⌜ 0 < length (now seen) ⌝ }
-    ensures { λ r. ⌜ r ≡ isSeen (now (seen .entry)) key ⌝ }
-{
-    let n = seen.len();
-    let old = seen[key as usize % n];
-    if old == 255 {
-        return true;
-    }
-    old == mark_of(key, n)
-}
-
 // Whether one of a field's keys is seen.
 fn any_seen(seen: &[u8], k: Keys) -> bool
     requires { ⌜ 0 < length (now seen) ⌝ }
     ensures { λ r. ⌜ r ≡ anySeen (now (seen .entry)) k ⌝ }
 {
-    if is_seen(seen, k.number) {
+    if seen::is_seen(seen, k.number) {
         return true;
     }
-    if is_seen(seen, k.name) {
+    if seen::is_seen(seen, k.name) {
         return true;
     }
-    is_seen(seen, k.json)
-}
-
-// What stands at a place once a mark more is left there: the mark, or 255 where another stood there.
-fn mark_behind(old: u8, mark: u8) -> u8
-    ensures { λ r. ⌜ r ≡ markBehind old mark ⌝ }
-{
-    if old == 0 {
-        return mark;
-    }
-    if old == mark {
-        return mark;
-    }
-    255
-}
-
-// Leaves a key's mark.
-fn see(seen: &mut [u8], key: u32)
-    requires { ⌜ 0 < length (now seen) ⌝ }
-    ensures { λ _. ⌜ now (seen .exit) ≡ see (now (seen .entry)) key ⌝ }
-{
-    let n = seen.len();
-    let at = key as usize % n;
-    seen[at] = mark_behind(seen[at], mark_of(key, n));
+    seen::is_seen(seen, k.json)
 }
 
 // Leaves a field's marks.
@@ -179,9 +135,9 @@ fn see_all(seen: &mut [u8], k: Keys)
     requires { ⌜ 0 < length (now seen) ⌝ }
     ensures { λ _. ⌜ now (seen .exit) ≡ seeAll (now (seen .entry)) k ⌝ }
 {
-    see(seen, k.number);
-    see(seen, k.name);
-    see(seen, k.json);
+    seen::see(seen, k.number);
+    seen::see(seen, k.name);
+    seen::see(seen, k.json);
 }
 
 // The first regular field that clashes with an earlier one. `seen` is lent to write in: a field none of whose keys is seen clashes

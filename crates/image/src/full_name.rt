@@ -24,7 +24,7 @@ ghost use Rattle.names.specs.Package.{concatPaths};
 ghost use Rattle.image.specs.Schema.{schemaIn};
 ghost use Rattle.image.specs.Links.{messageUp, enumRow};
 ghost use Rattle.image.specs.FullName.{messagePath, enumPath, pathBeneath, itemName, itemUp, fullName, fullNamesShort, fullNameLimit};
-ghost use Rattle.image.specs.Climb.{nameOf, messageAbove, namedUp, joinedLength, lead, writtenLength};
+ghost use Rattle.image.specs.Climb.{nameOf, messageAbove, namedUp, mayEnd, joinedLength, lead, writtenLength};
 ghost use Rattle.image.specs.Lookup.{messageByPath, enumByPath};
 ghost use Rattle.image.specs.MapEntry.{endsWith};
 
@@ -110,6 +110,19 @@ fn ends_in(text: &[u8], name: &[u8]) -> bool
     bytes::same_bytes(&text[start..], name)
 }
 
+// Whether `text` may end in `name`, by its length and last byte. Most names are told apart so, before their places are looked at.
+fn may_end(text: &[u8], name: &[u8]) -> bool
+    ensures { λ r. ⌜ r ≡ mayEnd (now (text .entry)) (now (name .entry)) ⌝ }
+{
+    if name.len() == 0 {
+        return true;
+    }
+    if text.len() < name.len() {
+        return false;
+    }
+    text[text.len() - 1] == name[name.len() - 1]
+}
+
 // Whether `wanted` is the path of what is called `name` and stands where the enclosing word `up` says, in which so many levels are looked
 // at: the name must be its last segment, and what stands in front of the dot the path of the message that encloses it.
 fn is_path_beneath(
@@ -163,6 +176,9 @@ pub fn is_message_path(
     ensures { λ r. ⌜ r ≡ same (now (wanted .entry)) (messagePath (schemaIn (now (image .entry)) s (now (pool .entry))) (now (links .entry)) depth (m .0)) ⌝ }
 {
     let name = message_name(image, s, pool, links, m);
+    if !may_end(wanted, name) {
+        return false;
+    }
     let up = links::message_up(links, m);
     is_path_beneath(image, s, pool, links, wanted, up, name, depth)
 }
@@ -179,6 +195,9 @@ pub fn is_enum_path(
     ensures { λ r. ⌜ r ≡ same (now (wanted .entry)) (enumPath (schemaIn (now (image .entry)) s (now (pool .entry))) (now (links .entry)) (e .0)) ⌝ }
 {
     let name = enum_name(image, s, pool, links, e);
+    if !may_end(wanted, name) {
+        return false;
+    }
     let up = links::enum_up(image, s, pool, links, e);
     is_path_beneath(image, s, pool, links, wanted, up, name, 16)
 }

@@ -15,6 +15,7 @@ pub mod map_entry;
 pub mod oneofs;
 mod owners;
 pub mod rows;
+mod seen;
 pub mod shelf;
 mod siblings;
 pub mod texts;

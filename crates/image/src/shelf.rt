@@ -30,10 +30,8 @@ pub struct Places {
 pub fn file_image<'a>(words: &'a [u32], bytes: &[u8], p: Places, f: u32) -> &'a [u32]
     ensures { λ r. ⌜ now r ≡ fileIn (now (words .entry)) (now (bytes .entry)) p f .image ⌝ }
 {
-    let starts = p.starts;
-    let images = p.images;
-    let start = rows::word_at(&starts, f as usize);
-    let size = rows::word_at(&images, f as usize);
+    let start = rows::word_at(&p.starts, f as usize);
+    let size = rows::word_at(&p.images, f as usize);
     rows::words_part(words, start as usize, size as usize)
 }
 
@@ -41,10 +39,8 @@ pub fn file_image<'a>(words: &'a [u32], bytes: &[u8], p: Places, f: u32) -> &'a 
 pub fn file_links<'a>(words: &'a [u32], bytes: &[u8], p: Places, f: u32) -> &'a [u32]
     ensures { λ r. ⌜ now r ≡ fileIn (now (words .entry)) (now (bytes .entry)) p f .links ⌝ }
 {
-    let starts = p.starts;
-    let images = p.images;
-    let start = rows::word_at(&starts, f as usize) as usize;
-    let size = rows::word_at(&images, f as usize) as usize;
+    let start = rows::word_at(&p.starts, f as usize) as usize;
+    let size = rows::word_at(&p.images, f as usize) as usize;
     let s = rows::read_sections(rows::words_part(words, start, size));
     rows::words_part(words, start + size, links::link_row_words(s))
 }
@@ -53,10 +49,8 @@ pub fn file_links<'a>(words: &'a [u32], bytes: &[u8], p: Places, f: u32) -> &'a 
 pub fn file_pool<'a>(words: &[u32], bytes: &'a [u8], p: Places, f: u32) -> &'a [u8]
     ensures { λ r. ⌜ now r ≡ fileIn (now (words .entry)) (now (bytes .entry)) p f .pool ⌝ }
 {
-    let pools = p.pools;
-    let lengths = p.lengths;
-    let start = rows::word_at(&pools, f as usize);
-    let length = rows::word_at(&lengths, f as usize);
+    let start = rows::word_at(&p.pools, f as usize);
+    let length = rows::word_at(&p.lengths, f as usize);
     texts::bytes_part(bytes, start as usize, length as usize)
 }
 

@@ -3,15 +3,20 @@
 // to compare siblings.
 use crate::full_name;
 use crate::rows::Sections;
+use crate::seen;
 use names::bytes;
+use names::key;
 ghost use mathlib.Core.Path.{_≡_};
 ghost use mathlib.Core.Bool.{_&&_};
+ghost use Prim.Native.Nat.{_<_};
 ghost use lib.Dec.{eqb};
+ghost use lib.ListN.{length};
 ghost use Rattle.lists.specs.Below.{anyBelow};
 ghost use Rattle.lists.specs.Lists.{same};
 ghost use Rattle.image.specs.Schema.{schemaIn};
 ghost use Rattle.image.specs.FullName.{itemName, itemUp, sharesName};
 ghost use Rattle.image.specs.Chained.{Chained, Named, siblings};
+ghost use Rattle.image.specs.Seen.{itemKey};
 
 // Whether item j stands where the enclosing word `up` says and is called `name`. Most items stand elsewhere, so that is looked at first.
 fn is_sibling(
@@ -47,19 +52,44 @@ fn has_twin(image: &[u32], s: Sections, pool: &[u8], links: &[u32], i: u32) -> b
     false
 }
 
-// Rule 8: whether some item has the full name of an earlier one.
-pub(crate) fn shares_name(image: &[u32], s: Sections, pool: &[u8], links: &[u32]) -> bool
+// An item's key: its own name's, and its enclosing word.
+fn item_key(image: &[u32], s: Sections, pool: &[u8], links: &[u32], i: u32) -> u32
+    ensures { λ r. ⌜ r ≡ itemKey (schemaIn (now (image .entry)) s (now (pool .entry))) (now (links .entry)) i ⌝ }
+{
+    let up = full_name::item_up(image, s, pool, links, i);
+    let name = full_name::item_name(image, s, pool, links, i);
+    ((key::text_key(name) as u64 + up as u64 * 40503) % 4294967296) as u32
+}
+
+// Whether some item has the full name of an earlier one. `seen` is lent to write in: an item whose key is not seen has no twin before it, so
+// that only the others are compared. A mark that stands there from the beginning costs time and nothing else.
+fn shares_name_seen(image: &[u32], s: Sections, pool: &[u8], links: &[u32], seen: &mut [u8]) -> bool
     requires { ⌜ Chained (schemaIn (now image) s (now pool)) (now links) ⌝ }
     requires { ⌜ Named (schemaIn (now image) s (now pool)) (now links) ⌝ }
+    requires { ⌜ 0 < length (now seen) ⌝ }
     ensures { λ r. ⌜ r ≡ sharesName (schemaIn (now (image .entry)) s (now (pool .entry))) (now (links .entry)) ⌝ }
 {
     let n = s.messages.count + s.enums.count;
     let mut i: u32 = 0;
     while i < n {
-        if has_twin(image, s, pool, links, i) {
-            return true;
+        let k = item_key(image, s, pool, links, i);
+        if seen::is_seen(seen, k) {
+            if has_twin(image, s, pool, links, i) {
+                return true;
+            }
         }
+        seen::see(seen, k);
         i += 1;
     }
     false
+}
+
+// Rule 8: whether some item has the full name of an earlier one. There are at most 512 items.
+pub(crate) fn shares_name(image: &[u32], s: Sections, pool: &[u8], links: &[u32]) -> bool
+    requires { ⌜ Chained (schemaIn (now image) s (now pool)) (now links) ⌝ }
+    requires { ⌜ Named (schemaIn (now image) s (now pool)) (now links) ⌝ }
+    ensures { λ r. ⌜ r ≡ sharesName (schemaIn (now (image .entry)) s (now (pool .entry))) (now (links .entry)) ⌝ }
+{
+    let mut seen = [0u8; 1024];
+    shares_name_seen(image, s, pool, links, &mut seen)
 }

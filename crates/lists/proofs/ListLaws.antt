@@ -1,4 +1,4 @@
--- Laws of `isEmpty`, `all`, `any`, `same`, `isPrefixOf` and `part`. Assumes nothing.
+-- Laws of `isEmpty`, `all`, `same`, `isPrefixOf` and `part`. Assumes nothing.
 use mathlib.Core.Path.{_≡_, refl, sym, ap, _∙_}
 use mathlib.Core.Bool.{Bool, true, false, _&&_}
 use mathlib.Core.List.{List, [], _∷_, _++_}
@@ -46,9 +46,14 @@ module _ {A : Type 0} where
   all-weaker p q [] h a = refl
   all-weaker p q (x ∷ l) h a = both (q x) (all q l) (h x (left (p x) (all p l) a)) (all-weaker p q l h (right (p x) (all p l) a))
 
-  -- ---- any
-
   -- ---- what is left of a list
+
+  -- a turn of a loop, and its end
+  pub rest-more : (l : List A) (i : ℕ) (d : A) → i < length l → drop i l ≡ getD l i d ∷ drop (i + 1) l
+  rest-more l i d h = rw (add-one, drop-cons l i d)
+
+  pub rest-end : (l : List A) (i : ℕ) → length l ≤ i → drop i l ≡ []
+  rest-end l i h = rw drop-of-length-le
 
   pub drop-first : (l : List A) (j : ℕ) (x : A) (r : List A) (d : A) → drop j l ≡ x ∷ r → (j < length l) × (getD l j d ≡ x) × (drop (j + 1) l ≡ r)
   drop-first l j x r d e =

@@ -1,10 +1,7 @@
 -- Laws of the keys of texts: a key that is made a byte at a time. Assumes nothing.
-use Prim.Native.Nat.{ℕ, _+_, _≤_, _<_}
-use native.Mathlib.Numerals.{add-one}
+use Prim.Native.Nat.{ℕ}
 use mathlib.Core.Path.{_≡_, refl, sym, _∙_}
 use mathlib.Core.List.{List, [], _∷_}
-use lib.ListN.{length, getD, drop, drop-of-length-le}
-use lib.Seq.{drop-cons}
 use Rattle.names.specs.Key.{keyBehind, keyFrom, textKey}
 
 -- the bytes before `rest` gave the key so far
@@ -23,11 +20,3 @@ module _ {whole rest : List ℕ} {key : ℕ} (k : Keying whole rest key) where
   pub keying-end : rest ≡ [] → key ≡ textKey whole
   unfolding keyFrom
   keying-end e = sym (k .goes ∙ rw e)
-
--- ---- the rest of a text
-
-pub rest-more : (s : List ℕ) (i : ℕ) → i < length s → drop i s ≡ getD s i 0 ∷ drop (i + 1) s
-rest-more s i h = rw (add-one, drop-cons s i 0)
-
-pub rest-end : (s : List ℕ) (i : ℕ) → length s ≤ i → drop i s ≡ []
-rest-end s i h = rw drop-of-length-le

@@ -3,7 +3,8 @@ use Prim.Native.Nat.{_+_, _-_, _≤_}
 use native.Mathlib.Omega.{arith}
 use borrow.Author.Needs.{needs}
 use lib.ListN.{length, getD, drop}
-use Rattle.names.proofs.KeyLaws.{Keying, keying-start, keying-more, keying-end, rest-more, rest-end}
+use Rattle.lists.proofs.ListLaws.{rest-more, rest-end}
+use Rattle.names.proofs.KeyLaws.{Keying, keying-start, keying-more, keying-end}
 use Rattle.names.proofs.key.text_key.Statement.{statement}
 use Rattle.names.proofs.key.text_key.Tie as tie
 
@@ -18,7 +19,7 @@ loop-again c =
     let t = c .before .before in
     let l = t .before .loop in
     let s = t .before .before .before .args .s .now in
-    (omega arith, keying-more (l .inv .1) (drop (l .i + 1) s) (getD s (l .i) 0) (c .key-behind .result) (rest-more s (l .i) (t .loop-test .taken)) (c .key-behind .ensures))
+    (omega arith, keying-more (l .inv .1) (drop (l .i + 1) s) (getD s (l .i) 0) (c .key-behind .result) (rest-more s (l .i) 0 (t .loop-test .taken)) (c .key-behind .ensures))
 
 returns : tie.Need-returns Inv-loop μ-loop
 returns c = keying-end (c .before .loop .inv .1) (rest-end (c .before .before .before .args .s .now) (c .before .loop .i) (c .loop-test .left))

@@ -1,10 +1,10 @@
--- `image::fields::is_seen` meets its contract. Assumes nothing.
+-- `image::seen::is_seen` meets its contract. Assumes nothing.
 use native.Mathlib.Nat.{mod-lt}
 use borrow.Author.Needs.{needs}
 use borrow.Author.Tests.{eq-eqb, ne-eqb}
 use Rattle.image.specs.Seen.{isMarked, isSeen}
-use Rattle.image.proofs.fields.is_seen.Statement.{statement}
-use Rattle.image.proofs.fields.is_seen.Tie as tie
+use Rattle.image.proofs.seen.is_seen.Statement.{statement}
+use Rattle.image.proofs.seen.is_seen.Tie as tie
 
 returns : tie.Need-returns
 unfolding isSeen isMarked

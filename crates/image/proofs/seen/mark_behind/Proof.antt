@@ -1,8 +1,8 @@
--- `image::fields::mark_behind` meets its contract. Assumes nothing.
+-- `image::seen::mark_behind` meets its contract. Assumes nothing.
 use borrow.Author.Tests.{eq-eqb, ne-eqb}
 use Rattle.image.specs.Seen.{markBehind}
-use Rattle.image.proofs.fields.mark_behind.Statement.{statement}
-use Rattle.image.proofs.fields.mark_behind.Tie as tie
+use Rattle.image.proofs.seen.mark_behind.Statement.{statement}
+use Rattle.image.proofs.seen.mark_behind.Tie as tie
 
 returns : tie.Need-returns
 unfolding markBehind

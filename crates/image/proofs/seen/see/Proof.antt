@@ -1,9 +1,9 @@
--- `image::fields::see` meets its contract. Assumes nothing.
+-- `image::seen::see` meets its contract. Assumes nothing.
 use native.Mathlib.Nat.{mod-lt}
 use borrow.Author.Needs.{needs}
 use Rattle.image.specs.Seen.{see}
-use Rattle.image.proofs.fields.see.Statement.{statement}
-use Rattle.image.proofs.fields.see.Tie as tie
+use Rattle.image.proofs.seen.see.Statement.{statement}
+use Rattle.image.proofs.seen.see.Tie as tie
 
 returns : tie.Need-returns
 unfolding see
