@@ -12,7 +12,7 @@ use Rattle.lists.specs.Lists.{same, isEmpty}
 use Rattle.lists.proofs.Cases.{clash, left, right, and-true}
 use Rattle.lists.proofs.ListLaws.{same-refl, same-is, same-differ, same-append}
 use Rattle.names.specs.Package.{concatPaths}
-use Rattle.image.specs.Climb.{joinedLength, lastByte, lead, mayEnd}
+use Rattle.image.specs.Climb.{joinedLength, lastByte, lead, mayEndIn}
 use Rattle.image.specs.MapEntry.{endsWith}
 use Rattle.image.proofs.TextLaws.{empty-some}
 
@@ -87,12 +87,15 @@ unfolding same
 same-nil [] = refl
 same-nil (b ∷ w) = sym (ne-eqb (suc (length w)) 0 (λ e. omega arith))
 
+-- what a text ends in is what is left of it
+ends-tail : (w t : List ℕ) → endsWith w t ≡ true → drop (length w - length t) w ≡ t
+ends-tail w t e = same-is (drop (length w - length t) w) t (right (leb (length t) (length w)) (same (drop (length w - length t) w) t) e)
+
 -- where both end in t, what is in front of it decides
 pub ends-same : (w s t : List ℕ) → endsWith w t ≡ true → same w (s ++ t) ≡ same (take (length w - length t) w) s
 ends-same w s t e =
     let u = take (length w - length t) w in
-    let split : w ≡ u ++ t = sym (take-append-drop (length w - length t) w)
-    ∙ ap (λ (l : List ℕ). u ++ l) (same-is (drop (length w - length t) w) t (right (leb (length t) (length w)) (same (drop (length w - length t) w) t) e)) in
+    let split : w ≡ u ++ t = sym (take-append-drop (length w - length t) w) ∙ ap (λ (l : List ℕ). u ++ l) (ends-tail w t e) in
     ap (λ (l : List ℕ). same l (s ++ t)) split
     ∙ same-append u s t t refl
     ∙ ap (λ (q : Bool). same u s && q) (same-refl t)
@@ -126,28 +129,27 @@ module _ (w t : List ℕ) where
 -- ---- a text that does not end as a name does is no path of what has that name
 
 -- test by test
-pub may-nameless : (w t : List ℕ) → length t ≡ 0 → mayEnd w t ≡ true
-unfolding mayEnd isEmpty
+pub may-nameless : (w t : List ℕ) → length t ≡ 0 → mayEndIn w t ≡ true
+unfolding mayEndIn isEmpty
 may-nameless w [] h = refl
 may-nameless w (b ∷ t) h = absurd (omega arith)
 
 module _ (w t : List ℕ) (some : length t ≡ 0 → ⊥) where
-  pub may-short : length w < length t → mayEnd w t ≡ false
-  unfolding mayEnd
+  pub may-short : length w < length t → mayEndIn w t ≡ false
+  unfolding mayEndIn
   may-short h = simp (empty-some t some, lt-leb (length t) (length w) h)
 
-  pub may-byte : length t ≤ length w → mayEnd w t ≡ eqb (lastByte w) (lastByte t)
-  unfolding mayEnd
+  pub may-byte : length t ≤ length w → mayEndIn w t ≡ eqb (lastByte w) (lastByte t)
+  unfolding mayEndIn
   may-byte h = simp (empty-some t some, le-leb (length t) (length w) h)
 
 ends-bytes : (w t : List ℕ) → endsWith w t ≡ true → 0 < length t → lastByte w ≡ lastByte t
 ends-bytes w t e h =
     let l = ends-length w t e in
-    let tail = same-is (drop (length w - length t) w) t (right (leb (length t) (length w)) (same (drop (length w - length t) w) t) e) in
     let n : length w - 1 ≡ length w - length t + (length t - 1) = omega arith in
     ap (λ (k : ℕ). getD w k 0) n
     ∙ sym (getD-drop (length w - length t) w (length t - 1) 0)
-    ∙ ap (λ (l : List ℕ). getD l (length t - 1) 0) tail
+    ∙ ap (λ (l : List ℕ). getD l (length t - 1) 0) (ends-tail w t e)
 
 joined-ends : (s t : List ℕ) → endsWith (concatPaths s t) t ≡ true
 unfolding concatPaths
@@ -156,12 +158,12 @@ joined-ends (a ∷ s) [] = ends-append [] []
 joined-ends (a ∷ s) (b ∷ t) =
     sym (ap (λ (l : List ℕ). endsWith l (b ∷ t)) (append-assoc (a ∷ s) (46 ∷ []) (b ∷ t))) ∙ ends-append ((a ∷ s) ++ 46 ∷ []) (b ∷ t)
 
-joined-may : (s t : List ℕ) → mayEnd (concatPaths s t) t ≡ true
+joined-may : (s t : List ℕ) → mayEndIn (concatPaths s t) t ≡ true
 joined-may s [] = may-nameless (concatPaths s []) [] refl
 joined-may s (b ∷ t) =
     let w = concatPaths s (b ∷ t) in
     let e = joined-ends s (b ∷ t) in
     may-byte w (b ∷ t) (λ z. omega arith) (ends-length w (b ∷ t) e) ∙ eq-eqb (lastByte w) (lastByte (b ∷ t)) (ends-bytes w (b ∷ t) e (omega arith))
 
-pub may-not : (w s t : List ℕ) → mayEnd w t ≡ false → same w (concatPaths s t) ≡ false
-may-not w s t e = same-differ w (concatPaths s t) (λ q. clash (mayEnd w t) (rw q (joined-may s t)) e)
+pub may-not : (w s t : List ℕ) → mayEndIn w t ≡ false → same w (concatPaths s t) ≡ false
+may-not w s t e = same-differ w (concatPaths s t) (λ q. clash (mayEndIn w t) (rw q (joined-may s t)) e)

@@ -91,6 +91,26 @@ module _ (seen : List ℕ) (key : ℕ) where
         (λ e. rw (length-see, here (placeIn n other) e) (mark-stays (getD seen place 0) (markOf n key) (markOf n other) (marks-between n key .1) (marks-between n other .0) (rw e at m)))
         (λ e. rw (length-see, elsewhere (placeIn n other) e) m)
 
+-- ---- a loop: each of the first i things has left its marks
+
+pub record Marked (hasLeft : List ℕ → ℕ → Type 0) (size : ℕ) (seen : List ℕ) (i : ℕ) : Type 0 where
+  pub long : length seen ≡ size
+  pub some : 0 < size
+  pub marks : (j : ℕ) → j < i → hasLeft seen j
+
+module _ {hasLeft : List ℕ → ℕ → Type 0} where
+  pub marked-start : (seen : List ℕ) → 0 < length seen → Marked hasLeft (length seen) seen 0
+  marked-start seen h = record { long = refl; some = h; marks = λ j l. absurd (omega arith) }
+
+  module _ {size : ℕ} {seen : List ℕ} {i : ℕ} (h : Marked hasLeft size seen i) where
+    pub marked-some : 0 < length seen
+    marked-some = omega (arith, h .long, h .some)
+
+    -- thing i leaves its marks, and those of the earlier ones stay
+    pub marked-more : {later : List ℕ} → length later ≡ length seen → hasLeft later i → ((j : ℕ) → hasLeft seen j → hasLeft later j) → Marked hasLeft size later (i + 1)
+    marked-more {later} n left stay =
+        record { long = n ∙ h .long; some = h .some; marks = λ j m. last (rw add-one at m) (λ q. rw q left) (λ l. stay j (h .marks j l)) }
+
 -- ---- the three marks of a field
 
 pub record AllSeen (seen : List ℕ) (k : Keys) : Type 0 where
@@ -155,26 +175,18 @@ module _ (seen : List ℕ) where
         text-apart (rule.jsonNameOf e) (rule.jsonNameOf f) (m .json) json,
       )
 
--- ---- the loop: each of the first j fields has left its marks
+-- ---- the loop over fields: a field none of whose keys is seen clashes with no earlier one
 
 module _ (image : List ℕ) (s : Sections) (pool : List ℕ) (g : Range) where
-  pub record Seeing (size : ℕ) (seen : List ℕ) (j : ℕ) : Type 0 where
-    pub long : length seen ≡ size
-    pub some : 0 < size
-    pub marks : (i : ℕ) → i < j → AllSeen seen (keysOf (says image s pool g i))
+  -- field i of the range has left its marks
+  abbrev pub FieldSeen : List ℕ → ℕ → Type 0
+  FieldSeen seen i = AllSeen seen (keysOf (says image s pool g i))
 
-  pub seeing-start : (seen : List ℕ) → 0 < length seen → Seeing (length seen) seen 0
-  seeing-start seen h = record { long = refl; some = h; marks = λ i l. absurd (omega arith) }
-
-  module _ {size : ℕ} {seen : List ℕ} {j : ℕ} (h : Seeing size seen j) (k : Keys) (is : k ≡ keysOf (says image s pool g j)) where
-    pub seeing-more : (later : List ℕ) → later ≡ seeAll seen k → Seeing size later (j + 1)
+  module _ {size : ℕ} {seen : List ℕ} {j : ℕ} (h : Marked FieldSeen size seen j) (k : Keys) (is : k ≡ keysOf (says image s pool g j)) where
+    pub seeing-more : (later : List ℕ) → later ≡ seeAll seen k → Marked FieldSeen size later (j + 1)
     seeing-more later e =
-        let l : 0 < length seen = omega (arith, h .long, h .some) in
-        rw e (record {
-          long = length-all seen l k ∙ h .long;
-          some = h .some;
-          marks = λ i m. last (rw add-one at m) (λ q. rw (q, ← is) (all-marks seen l k)) (λ n. all-keep seen l k (keysOf (says image s pool g i)) (h .marks i n));
-        })
+        let l = marked-some h in
+        rw e (marked-more h (length-all seen l k) (rw (← is) (all-marks seen l k)) (λ i. all-keep seen l k (keysOf (says image s pool g i))))
 
     pub seeing-clear : (r : ℕ) → g ≡ fieldsOf image s r → anySeen seen k ≡ false → rule.clashesEarlier (schemaIn image s pool) r j ≡ false
     seeing-clear r at e =

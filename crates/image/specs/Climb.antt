@@ -31,14 +31,14 @@ unfoldable pub namedUp : (ℕ → List ℕ) → (ℕ → ℕ) → ℕ → ℕ �
 unfolding pathAbove isEmpty
 namedUp name up levels a = cond (isEmpty (pathAbove name up levels a)) 0 a
 
--- the last byte of a text
+-- the last byte of a text, or 0 where it is empty
 abbrev pub lastByte : List ℕ → ℕ
 lastByte s = getD s (length s - 1) 0
 
--- a text may end in a name: it is not shorter, and ends in the same byte
-unfoldable pub mayEnd : List ℕ → List ℕ → Bool
+-- a text may end in a name: the name is empty, or the text is not shorter and ends in the same byte
+unfoldable pub mayEndIn : List ℕ → List ℕ → Bool
 unfolding isEmpty
-mayEnd text name = isEmpty name || (leb (length name) (length text) && eqb (lastByte text) (lastByte name))
+mayEndIn text name = isEmpty name || (leb (length name) (length text) && eqb (lastByte text) (lastByte name))
 
 -- how long two joined names are, by their lengths
 abbrev pub joinedLength : ℕ → ℕ → ℕ

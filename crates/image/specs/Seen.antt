@@ -1,20 +1,20 @@
--- Rules 8 and 17 by a table of marks. Each message or enum leaves one in it, of its own name and its place; each field of a message leaves
--- three, of its number, its own name and its JSON name. What has no key that is seen there shares nothing with what left its marks before.
--- Assumes nothing.
+-- Rules 8 and 17 by a table of marks. Each message or enum leaves one in it, of its own name and its enclosing word; each field of a message
+-- leaves three, of its number, its own name and its JSON name. What has no key that is seen there has no twin, and no clash, among what left its
+-- marks before. Assumes nothing.
 use mathlib.Core.List.{List}
 use mathlib.Core.Bool.{Bool, cond, _||_}
-use Prim.Native.Nat.{ℕ, _+_, _*_, _/_, _%_, _^_}
+use Prim.Native.Nat.{ℕ, _+_, _/_, _%_}
 use lib.Dec.{eqb}
 use lib.ListN.{length, getD, set}
-use Rattle.names.specs.Key.{textKey}
+use Rattle.names.specs.Key.{keyFrom, textKey}
 use Rattle.image.specs.Schema.{FieldSays, Schema}
 use Rattle.image.specs.Clash.{jsonNameOf}
 use Rattle.image.specs.FullName.{itemName, itemUp}
 use Rattle.image.specs.declared.fields.Keys.{Keys}
 
--- what the mark of a message or an enum is made from: its own name and its enclosing word
+-- what the mark of a message or an enum is made from: the key of its own name, begun with its enclosing word
 unfoldable pub itemKey : Schema → List ℕ → ℕ → ℕ
-itemKey g links i = (textKey (itemName g links i) + itemUp g links i * 40503) % (2 ^ 32)
+itemKey g links i = keyFrom (itemUp g links i) (itemName g links i)
 
 -- what the three marks of a field are made from
 unfoldable pub keysOf : FieldSays → Keys

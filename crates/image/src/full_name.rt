@@ -24,7 +24,7 @@ ghost use Rattle.names.specs.Package.{concatPaths};
 ghost use Rattle.image.specs.Schema.{schemaIn};
 ghost use Rattle.image.specs.Links.{messageUp, enumRow};
 ghost use Rattle.image.specs.FullName.{messagePath, enumPath, pathBeneath, itemName, itemUp, fullName, fullNamesShort, fullNameLimit};
-ghost use Rattle.image.specs.Climb.{nameOf, messageAbove, namedUp, mayEnd, joinedLength, lead, writtenLength};
+ghost use Rattle.image.specs.Climb.{nameOf, messageAbove, namedUp, mayEndIn, joinedLength, lead, writtenLength};
 ghost use Rattle.image.specs.Lookup.{messageByPath, enumByPath};
 ghost use Rattle.image.specs.MapEntry.{endsWith};
 
@@ -110,9 +110,9 @@ fn ends_in(text: &[u8], name: &[u8]) -> bool
     bytes::same_bytes(&text[start..], name)
 }
 
-// Whether `text` may end in `name`, by its length and last byte. Most names are told apart so, before their places are looked at.
-fn may_end(text: &[u8], name: &[u8]) -> bool
-    ensures { λ r. ⌜ r ≡ mayEnd (now (text .entry)) (now (name .entry)) ⌝ }
+// Whether `text` may end in `name`, by its length and last byte. Many names are told apart so, before the enclosing word is read.
+fn may_end_in(text: &[u8], name: &[u8]) -> bool
+    ensures { λ r. ⌜ r ≡ mayEndIn (now (text .entry)) (now (name .entry)) ⌝ }
 {
     if name.len() == 0 {
         return true;
@@ -176,7 +176,7 @@ pub fn is_message_path(
     ensures { λ r. ⌜ r ≡ same (now (wanted .entry)) (messagePath (schemaIn (now (image .entry)) s (now (pool .entry))) (now (links .entry)) depth (m .0)) ⌝ }
 {
     let name = message_name(image, s, pool, links, m);
-    if !may_end(wanted, name) {
+    if !may_end_in(wanted, name) {
         return false;
     }
     let up = links::message_up(links, m);
@@ -195,7 +195,7 @@ pub fn is_enum_path(
     ensures { λ r. ⌜ r ≡ same (now (wanted .entry)) (enumPath (schemaIn (now (image .entry)) s (now (pool .entry))) (now (links .entry)) (e .0)) ⌝ }
 {
     let name = enum_name(image, s, pool, links, e);
-    if !may_end(wanted, name) {
+    if !may_end_in(wanted, name) {
         return false;
     }
     let up = links::enum_up(image, s, pool, links, e);

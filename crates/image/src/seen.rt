@@ -1,4 +1,4 @@
-// A table of marks by which things with different keys are told apart: rule 8 tells names of siblings apart so, rule 17 fields.
+// A table of marks, by which things are told apart whose keys differ: messages and enums for rule 8, fields for rule 17.
 ghost use mathlib.Core.Path.{_≡_};
 ghost use Prim.Native.Nat.{_<_};
 ghost use lib.ListN.{length};

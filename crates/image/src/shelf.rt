@@ -30,8 +30,10 @@ pub struct Places {
 pub fn file_image<'a>(words: &'a [u32], bytes: &[u8], p: Places, f: u32) -> &'a [u32]
     ensures { λ r. ⌜ now r ≡ fileIn (now (words .entry)) (now (bytes .entry)) p f .image ⌝ }
 {
-    let start = rows::word_at(&p.starts, f as usize);
-    let size = rows::word_at(&p.images, f as usize);
+    let starts = p.starts;
+    let images = p.images;
+    let start = rows::word_at(&starts, f as usize);
+    let size = rows::word_at(&images, f as usize);
     rows::words_part(words, start as usize, size as usize)
 }
 
@@ -39,8 +41,10 @@ pub fn file_image<'a>(words: &'a [u32], bytes: &[u8], p: Places, f: u32) -> &'a 
 pub fn file_links<'a>(words: &'a [u32], bytes: &[u8], p: Places, f: u32) -> &'a [u32]
     ensures { λ r. ⌜ now r ≡ fileIn (now (words .entry)) (now (bytes .entry)) p f .links ⌝ }
 {
-    let start = rows::word_at(&p.starts, f as usize) as usize;
-    let size = rows::word_at(&p.images, f as usize) as usize;
+    let starts = p.starts;
+    let images = p.images;
+    let start = rows::word_at(&starts, f as usize) as usize;
+    let size = rows::word_at(&images, f as usize) as usize;
     let s = rows::read_sections(rows::words_part(words, start, size));
     rows::words_part(words, start + size, links::link_row_words(s))
 }
@@ -49,8 +53,10 @@ pub fn file_links<'a>(words: &'a [u32], bytes: &[u8], p: Places, f: u32) -> &'a 
 pub fn file_pool<'a>(words: &[u32], bytes: &'a [u8], p: Places, f: u32) -> &'a [u8]
     ensures { λ r. ⌜ now r ≡ fileIn (now (words .entry)) (now (bytes .entry)) p f .pool ⌝ }
 {
-    let start = rows::word_at(&p.pools, f as usize);
-    let length = rows::word_at(&p.lengths, f as usize);
+    let pools = p.pools;
+    let lengths = p.lengths;
+    let start = rows::word_at(&pools, f as usize);
+    let length = rows::word_at(&lengths, f as usize);
     texts::bytes_part(bytes, start as usize, length as usize)
 }
 

@@ -1,6 +1,6 @@
 // Rule 8: whether two messages or enums share a full name. Names have no dots, and enclosing words lead up to the top level, so two that
 // share a full name have a pair above them, or are one themselves, that stands in the same place with the same own name: it is enough
-// to compare siblings.
+// to compare siblings. Marks are looked at before that, so that few are compared at all.
 use crate::full_name;
 use crate::rows::Sections;
 use crate::seen;
@@ -18,7 +18,7 @@ ghost use Rattle.image.specs.FullName.{itemName, itemUp, sharesName};
 ghost use Rattle.image.specs.Chained.{Chained, Named, siblings};
 ghost use Rattle.image.specs.Seen.{itemKey};
 
-// Whether item j stands where the enclosing word `up` says and is called `name`. Most items stand elsewhere, so that is looked at first.
+// Whether item j stands where the enclosing word `up` says and is called `name`. The word is compared first, since it costs less than the name.
 fn is_sibling(
     image: &[u32],
     s: Sections,
@@ -52,13 +52,13 @@ fn has_twin(image: &[u32], s: Sections, pool: &[u8], links: &[u32], i: u32) -> b
     false
 }
 
-// An item's key: its own name's, and its enclosing word.
+// An item's key: that of its own name, begun with its enclosing word.
 fn item_key(image: &[u32], s: Sections, pool: &[u8], links: &[u32], i: u32) -> u32
     ensures { λ r. ⌜ r ≡ itemKey (schemaIn (now (image .entry)) s (now (pool .entry))) (now (links .entry)) i ⌝ }
 {
     let up = full_name::item_up(image, s, pool, links, i);
     let name = full_name::item_name(image, s, pool, links, i);
-    ((key::text_key(name) as u64 + up as u64 * 40503) % 4294967296) as u32
+    key::key_from(up, name)
 }
 
 // Whether some item has the full name of an earlier one. `seen` is lent to write in: an item whose key is not seen has no twin before it, so
@@ -84,7 +84,7 @@ fn shares_name_seen(image: &[u32], s: Sections, pool: &[u8], links: &[u32], seen
     false
 }
 
-// Rule 8: whether some item has the full name of an earlier one. There are at most 512 items.
+// Rule 8: whether some item has the full name of an earlier one. At most 512 items leave their marks in 1,024 bytes, so that few fall together.
 pub(crate) fn shares_name(image: &[u32], s: Sections, pool: &[u8], links: &[u32]) -> bool
     requires { ⌜ Chained (schemaIn (now image) s (now pool)) (now links) ⌝ }
     requires { ⌜ Named (schemaIn (now image) s (now pool)) (now links) ⌝ }

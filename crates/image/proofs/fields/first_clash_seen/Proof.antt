@@ -12,12 +12,12 @@ use Rattle.image.specs.Schema.{schemaIn}
 use Rattle.image.specs.Seen.{keysOf}
 use Rattle.image.proofs.FieldLaws.{first-clash-is, says}
 use Rattle.image.proofs.SearchLaws.{Searching, first-end, first-hit, firstIn, searching-more, searching-start}
-use Rattle.image.proofs.SeenLaws.{Seeing, seeing-clear, seeing-more, seeing-start}
+use Rattle.image.proofs.SeenLaws.{FieldSeen, Marked, marked-some, marked-start, seeing-clear, seeing-more}
 use Rattle.image.proofs.fields.first_clash_seen.Statement.{statement}
 use Rattle.image.proofs.fields.first_clash_seen.Tie as tie
 
 abbrev Inv-loop : tie.InvT-loop
-Inv-loop image s pool row seen₀ g n j₀ seen j = Searching n (clashesEarlier (schemaIn image s pool) (row .0)) j × Seeing image s pool g (length seen₀) seen j
+Inv-loop image s pool row seen₀ g n j₀ seen j = Searching n (clashesEarlier (schemaIn image s pool) (row .0)) j × Marked (FieldSeen image s pool g) (length seen₀) seen j
 
 abbrev μ-loop : tie.MeasureT-loop
 μ-loop image s pool row seen₀ g n j₀ seen j = n - j
@@ -38,7 +38,7 @@ keys c = rw (c .before .before .nth-field .ensures) at (c .keys-of .ensures)
 
 -- the table is never empty
 long : (c : tie.At-loop Inv-loop μ-loop) → 0 < length (c .loop .seen)
-long c = omega (arith, c .loop .inv .1 .long, c .loop .inv .1 .some)
+long c = marked-some (c .loop .inv .1)
 
 -- where the code goes on, the field of the turn clashes with no earlier one
 clear : (c : tie.Joined1 Inv-loop μ-loop)
@@ -69,7 +69,7 @@ first-clash-seen-spec =
     μ-loop
     (λ c κs. search needs)
     (λ c. let a = c .before .before .before .before .args in
-    (searching-start _ (clashesEarlier (schemaIn (a .image .now) (a .s) (a .pool .now)) (a .row .0)), seeing-start (a .image .now) (a .s) (a .pool .now) (c .fields-of .result) (a .seen .now) (c .before .before .before .before .pre)))
+    (searching-start _ (clashesEarlier (schemaIn (a .image .now) (a .s) (a .pool .now)) (a .row .0)), marked-start (a .seen .now) (c .before .before .before .before .pre)))
     (λ c κs. search needs)
     (λ c. search needs)
     (λ c κs. search needs)

@@ -14,7 +14,7 @@ returns c =
     let a = c .before .before .before .before .before .before .before .args in
     let g = schemaIn (a .image .now) (a .s) (a .pool .now) in
     rw (← c .before .before .enum-name .ensures)
-    (sym (may-not (a .wanted .now) (messageAbove g (a .links .now) 16 (enumUp g (a .links .now) (a .e .0))) (c .before .before .enum-name .result .now) (sym (c .before .may-end .ensures) ∙ not-true (c .before .may-end .result) (c .if1 .taken))))
+    (sym (may-not (a .wanted .now) (messageAbove g (a .links .now) 16 (enumUp g (a .links .now) (a .e .0))) (c .before .before .enum-name .result .now) (sym (c .before .may-end-in .ensures) ∙ not-true (c .before .may-end-in .result) (c .if1 .taken))))
 
 returns-2 : tie.Need-returns-2
 unfolding pathAbove

@@ -14,7 +14,7 @@ returns c =
     let a = c .before .before .before .before .before .before .before .args in
     let g = schemaIn (a .image .now) (a .s) (a .pool .now) in
     rw (path-above (nameOf g (a .links .now)) (messageUp (a .links .now)) (a .depth) (a .m .0), ← c .before .before .message-name .ensures)
-    (sym (may-not (a .wanted .now) (messageAbove g (a .links .now) (a .depth) (messageUp (a .links .now) (a .m .0))) (c .before .before .message-name .result .now) (sym (c .before .may-end .ensures) ∙ not-true (c .before .may-end .result) (c .if1 .taken))))
+    (sym (may-not (a .wanted .now) (messageAbove g (a .links .now) (a .depth) (messageUp (a .links .now) (a .m .0))) (c .before .before .message-name .result .now) (sym (c .before .may-end-in .ensures) ∙ not-true (c .before .may-end-in .result) (c .if1 .taken))))
 
 returns-2 : tie.Need-returns-2
 returns-2 c =

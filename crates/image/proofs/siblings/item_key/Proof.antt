@@ -6,18 +6,9 @@ use Rattle.image.proofs.siblings.item_key.Tie as tie
 
 returns : tie.Need-returns
 unfolding itemKey
-returns c = rw (c .text-key .ensures, c .before .item-name .ensures, c .before .before .item-up .ensures)
+returns c = rw (c .before .item-name .ensures, c .before .before .item-up .ensures) at (c .key-from .ensures)
 
 pub item-key-spec : {M : Type 1} → statement M
 item-key-spec =
     tie.close
-    (tie.spec
-    (λ c κs. search needs)
-    (λ c κs. search needs)
-    (λ c κs. search needs)
-    (λ c. search needs)
-    (λ c. search needs)
-    (λ c. search needs)
-    (λ c. search needs)
-    (λ c. search needs)
-    returns)
+    (tie.spec (λ c κs. search needs) (λ c κs. search needs) (λ c κs. search needs) returns)

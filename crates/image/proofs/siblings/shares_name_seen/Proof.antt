@@ -14,7 +14,8 @@ use Rattle.image.specs.FullName.{items}
 use Rattle.image.specs.Chained.{Chained, siblings, siblingsShare}
 use Rattle.image.specs.declared.rows.Sections.{Sections}
 use Rattle.image.proofs.SiblingLaws.{shares-siblings}
-use Rattle.image.proofs.TwinLaws.{Marked, marked-clear, marked-more, marked-start}
+use Rattle.image.proofs.SeenLaws.{Marked, marked-some, marked-start}
+use Rattle.image.proofs.TwinLaws.{ItemSeen, twins-clear, twins-more}
 use Rattle.image.proofs.siblings.shares_name_seen.Statement.{statement}
 use Rattle.image.proofs.siblings.shares_name_seen.Tie as tie
 
@@ -24,7 +25,7 @@ twin image s pool links i = anyBelow i (siblings (schemaIn image s pool) links i
 
 abbrev Inv-loop : tie.InvT-loop
 Inv-loop image s pool links seen₀ n i₀ seen i =
-    (i ≤ n) × (anyBelow i (twin image s pool links) ≡ false) × Marked (schemaIn image s pool) links (length seen₀) seen i
+    (i ≤ n) × (anyBelow i (twin image s pool links) ≡ false) × Marked (ItemSeen (schemaIn image s pool) links) (length seen₀) seen i
 
 abbrev μ-loop : tie.MeasureT-loop
 μ-loop image s pool links seen₀ n i₀ seen i = n - i
@@ -39,7 +40,7 @@ items-few image s pool links chained = rw (← items-are image s pool) (chained 
 
 -- the table is never empty
 long : (c : tie.At-loop Inv-loop μ-loop) → 0 < length (c .loop .seen)
-long c = omega (arith, c .loop .inv .2 .long, c .loop .inv .2 .some)
+long c = marked-some (c .loop .inv .2)
 
 returns : tie.Need-returns Inv-loop μ-loop
 unfolding siblingsShare
@@ -61,7 +62,7 @@ clear c =
     let a = l .before .before .before .before .before .before .args in
     either (c .if1 .came)
     (λ w. sym (w .1 .ensures) ∙ w .2 .left)
-    (λ w. marked-clear (schemaIn (a .image .now) (a .s) (a .pool .now)) (a .links .now) (l .loop .inv .2) (c .before .before .before .item-key .result) (c .before .before .before .item-key .ensures) (sym (c .before .is-seen .ensures) ∙ w .left))
+    (λ w. twins-clear (schemaIn (a .image .now) (a .s) (a .pool .now)) (a .links .now) (l .loop .inv .2) (c .before .before .before .item-key .result) (c .before .before .before .item-key .ensures) (sym (c .before .is-seen .ensures) ∙ w .left))
 
 loop-again : tie.Need-loop-again Inv-loop μ-loop
 loop-again c =
@@ -70,7 +71,7 @@ loop-again c =
     let a = l .before .before .before .before .before .before .args in (
       omega arith,
       anyBelow-more (l .loop .i) (twin (a .image .now) (a .s) (a .pool .now) (a .links .now)) (l .loop .inv .1) (clear i),
-      marked-more (schemaIn (a .image .now) (a .s) (a .pool .now)) (a .links .now) (l .loop .inv .2) (i .before .before .before .item-key .result) (i .before .before .before .item-key .ensures) _ (c .before .before .see .ensures),
+      twins-more (schemaIn (a .image .now) (a .s) (a .pool .now)) (a .links .now) (l .loop .inv .2) (i .before .before .before .item-key .result) (i .before .before .before .item-key .ensures) _ (c .before .before .see .ensures),
     )
 
 returns-2 : tie.Need-returns-2 Inv-loop μ-loop
@@ -93,7 +94,7 @@ shares-name-seen-spec =
     (λ c. let a = c .before .before .before .before .before .args in (
       omega arith,
       anyBelow-start (twin (a .image .now) (a .s) (a .pool .now) (a .links .now)),
-      marked-start (schemaIn (a .image .now) (a .s) (a .pool .now)) (a .links .now) (a .seen .now) (c .before .before .before .before .before .pre .1 .1),
+      marked-start (a .seen .now) (c .before .before .before .before .before .pre .1 .1),
     ))
     (λ c κs. tt)
     (λ c κs. long (c .before .before .before))

@@ -1,9 +1,9 @@
--- `image::full_name::may_end` meets its contract. Assumes nothing.
+-- `image::full_name::may_end_in` meets its contract. Assumes nothing.
 use mathlib.Core.Path.{sym}
 use borrow.Author.Needs.{needs}
 use Rattle.image.proofs.PathTexts.{may-byte, may-nameless, may-short}
-use Rattle.image.proofs.full_name.may_end.Statement.{statement}
-use Rattle.image.proofs.full_name.may_end.Tie as tie
+use Rattle.image.proofs.full_name.may_end_in.Statement.{statement}
+use Rattle.image.proofs.full_name.may_end_in.Tie as tie
 
 returns : tie.Need-returns
 returns c = let a = c .before .args in sym (may-nameless (a .text .now) (a .name .now) (c .if1 .taken))
@@ -16,7 +16,7 @@ returns-3 c =
     let a = c .before .before .before .before .args in
     sym (may-byte (a .text .now) (a .name .now) (c .before .before .before .if1 .left) (c .before .before .if2 .left))
 
-pub may-end-spec : {M : Type 1} → statement M
-may-end-spec =
+pub may-end-in-spec : {M : Type 1} → statement M
+may-end-in-spec =
     tie.close
     (tie.spec returns returns-2 (λ c. search needs) (λ c. search needs) (λ c. search needs) (λ c. search needs) returns-3)
