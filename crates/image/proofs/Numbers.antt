@@ -7,7 +7,7 @@ use Prim.Native.Nat.{ℕ, zero, suc, ◌+◌, ◌-◌, ◌<◌, ◌≤◌}
 use native.Mathlib.Omega.{arith}
 use lib.ListN.{length, get_or, length-append, get_or-append}
 use lib.Seq.{get_or-append-add}
-use lib.Dec.{ltb}
+use lib.Dec.{ltb, eqb}
 use borrow.Author.Tests.{ltb-true, eq-eqb, lt-ltb, le-ltb}
 use Rattle.lists.specs.Below.{bit, sum_below}
 use Rattle.lists.specs.Lists.{concat_map, all, total, occurs}
@@ -66,6 +66,14 @@ module _ (g : Schema) where
       (λ t. let z = occurs-span (get_or w i 0) (g.nested x).first (g.nested x).count ∙ ap bit t in absurd (omega arith)))
       (λ b. record { at = suc b.at; before = omega (arith, b.before); has = b.has })
 
+  occurs_cons : (r x : ℕ) (l : List ℕ) → occurs r (x ∷ l) ≡ bit (eqb x r) + occurs r l
+  unfolding occurs
+  occurs_cons r x l = refl
+
+  -- what occurs in a list occurs in a longer one
+  occurs_more : (r s x : ℕ) (l : List ℕ) → r ≡ s → 1 ≤ occurs s l → 1 ≤ occurs r (x ∷ l)
+  occurs_more r s x l e o = rw (e, occurs_cons) (omega arith)
+
   precede_list : (d : ℕ) → ((x i : ℕ) → i < length (walked d g (nested_rows g x)) → Placed (nested_rows g x) (walked d g (nested_rows g x)) i)
       → (l : List ℕ) (i : ℕ) → i < length (walked (suc d) g l) → Placed l (walked (suc d) g l) i
   unfolding concat_map occurs preorder
@@ -80,8 +88,9 @@ module _ (g : Schema) where
       (λ m.
       let k = i - length a in
       let e : suc i ≡ length (x ∷ a) + k = omega arith in
+      let at : get_or ((x ∷ a) ++ w) (suc i) 0 ≡ get_or w k 0 = rw (e, get_or-append-add (x ∷ a) w k 0) in
       either (precede_list d h l k (omega arith))
-      (λ o. inl (rw (e, get_or-append-add (x ∷ a) w k 0) (omega arith)))
+      (λ o. inl (occurs_more _ _ x l at o))
       (λ b. inr (rw e (shift (x ∷ a) w k b))))
 
   pub precede : (d : ℕ) (l : List ℕ) (i : ℕ) → i < length (walked d g l) → Placed l (walked d g l) i

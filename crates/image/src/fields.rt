@@ -10,7 +10,7 @@ use crate::{rows, seen, texts};
 use names::{bytes, json_name, key};
 
 // What the three marks of a field are made from: its number, and the keys of its own name and its JSON name.
-#[derive(Drop)]
+#[derive(Clone, Copy)]
 struct Keys {
     number: u32,
     name: u32,

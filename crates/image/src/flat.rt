@@ -13,7 +13,7 @@ use crate::rows::{Flat, Range, Row, Sections};
 use crate::{links, rows};
 
 // The next free flat numbers, which each step of the walk takes and hands on.
-#[derive(Drop)]
+#[derive(Clone, Copy)]
 pub struct Tally {
     pub messages: u32,
     pub enums: u32,

@@ -20,7 +20,7 @@ use names::bytes;
 use names::name::{Fronted, concat_paths, put_front};
 
 // A message or an enum, or none.
-#[derive(Drop)]
+#[derive(Clone, Copy)]
 pub enum FlatFound {
     At(Flat),
     Nothing,

@@ -14,7 +14,7 @@ use crate::verdict::{Refusal, Verdict};
 use crate::{flat, full_name, layout, limits, links, map_entry, rows, siblings, texts};
 
 // The verdict of 3, 4 and 5, and that of 8 to 11. They are two because others are tried between them.
-#[derive(Drop)]
+#[derive(Clone, Copy)]
 pub struct Judged {
     pub opening: Verdict,
     pub naming: Verdict,

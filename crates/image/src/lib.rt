@@ -2,6 +2,8 @@
 //
 // Below stand the rules of texts, crate `names`; above stands the linker, which cites what is promised here. Every public function is
 // total: any words, any bytes, any lengths are answered.
+#![tactic(auto)]
+
 pub mod fields;
 pub mod flat;
 pub mod full_name;

@@ -6,22 +6,22 @@ ghost use Rattle.image.specs.Schema.{field_row};
 ghost use Rattle.image.specs.declared.rows.Kind.TheVariants.{Message};
 
 // A row's place in its section of the image.
-#[derive(Drop)]
+#[derive(Clone, Copy)]
 pub struct Row(pub u32);
 
 // A number in the flat order of a file's messages, enums, oneofs or fields.
-#[derive(Drop)]
+#[derive(Clone, Copy)]
 pub struct Flat(pub u32);
 
 // A place among the rows of a range, or none.
-#[derive(Drop)]
+#[derive(Clone, Copy)]
 pub enum Found {
     At(u32),
     Nothing,
 }
 
 // The six kinds of rows, in the order of their sections.
-#[derive(Drop)]
+#[derive(Clone, Copy)]
 pub enum Kind {
     Import,
     Message,
@@ -32,21 +32,21 @@ pub enum Kind {
 }
 
 // `count` rows from row `first` on.
-#[derive(Drop)]
+#[derive(Clone, Copy)]
 pub struct Range {
     pub first: u32,
     pub count: u32,
 }
 
 // Where a section's rows start, and how many there are.
-#[derive(Drop)]
+#[derive(Clone, Copy)]
 pub struct Section {
     pub start: u32,
     pub count: u32,
 }
 
 // The six sections, as the trailer tells.
-#[derive(Drop)]
+#[derive(Clone, Copy)]
 pub struct Sections {
     pub imports: Section,
     pub messages: Section,

@@ -6,7 +6,7 @@ ghost use Rattle.image.specs.Places.{file_in, places_of, nowhere, chained};
 use crate::{links, rows, texts};
 
 // What the caller holds: words used, bytes used, files.
-#[derive(Drop)]
+#[derive(Clone, Copy)]
 pub struct Used {
     pub words: u32,
     pub bytes: u32,
@@ -15,7 +15,7 @@ pub struct Used {
 
 // Where the files of a well-formed shelf stand: for each the start of its record and how many words its image has, and the
 // start and length of its pool. Where the shelf is not well formed, `whole` is false and all numbers are 0.
-#[derive(Drop)]
+#[derive(Clone, Copy)]
 pub struct Places {
     pub whole: bool,
     pub starts: [u32; 32],

@@ -3,7 +3,7 @@ ghost use Rattle.std.specs.Prelude.{◌≡◌};
 ghost use Rattle.image.specs.Verdict.{number};
 
 // The refusals, in the order tried.
-#[derive(Drop)]
+#[derive(Clone, Copy)]
 pub enum Refusal {
     TooLong,
     ShelfBroken,
@@ -26,7 +26,7 @@ pub enum Refusal {
 }
 
 // No refusal, or the first that was given, with its place.
-#[derive(Drop)]
+#[derive(Clone, Copy)]
 pub enum Verdict {
     Passed,
     Stopped(Refusal, u32),

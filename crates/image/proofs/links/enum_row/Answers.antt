@@ -1,0 +1,7 @@
+-- `image::links::enum_row_lem` meets its contract. Assumes nothing.
+use Rattle.image.specs.Schema.{schema_in}
+use Rattle.image.proofs.links.enum_row.Goals as goal
+
+pub returns : goal.returns
+unfolding schema_in
+returns c = c.word_at.ensures
