@@ -30,7 +30,10 @@ not_passed e = clash false (ap passes e) refl
 
 -- what the default of a field is to be: its refusal, and where there is none its three words
 abbrev pub IsDefault : Sight → List ℕ → FieldSays → ℕ → DefaultLinked → Type 0
-IsDefault s list f at r = (r.verdict ≡ first (default_lines s list f at)) × (r.verdict ≡ Passed → (r.kind ∷ r.low ∷ r.high ∷ []) ≡ default_part s list f)
+IsDefault s list f at r = record {
+  verdict_value : r.verdict ≡ first (default_lines s list f at);
+  high_value : r.verdict ≡ Passed → (r.kind ∷ r.low ∷ r.high ∷ []) ≡ default_part s list f;
+}
 
 module _ (s : Sight) (list : List ℕ) (f : FieldSays) (at : ℕ) where
   -- ---- the default of an enum
@@ -48,7 +51,7 @@ module _ (s : Sight) (list : List ℕ) (f : FieldSays) (at : ℕ) where
 
   absent_is : eqb f.given 0 ≡ true → IsDefault s list f at (record { verdict = Passed; kind = 0; low = 0; high = 0 })
   unfolding default_lines default_part first
-  absent_is g = (rw g, λ _. rw g)
+  absent_is g = record { verdict_value = rw g; high_value = λ _. rw g }
 
   pub default_absent : {r : DefaultLinked} → eqb f.given 0 ≡ true → r ≡ record { verdict = Passed; kind = 0; low = 0; high = 0 } → IsDefault s list f at r
   default_absent g e = subst (IsDefault s list f at) (sym e) (absent_is g)
@@ -58,30 +61,30 @@ module _ (s : Sight) (list : List ℕ) (f : FieldSays) (at : ℕ) where
   module _ (g : eqb f.given 0 ≡ false) where
     integer_is : (w : Words) → default_read f ≡ Integer w → IsDefault s list f at (record { verdict = Passed; kind = 1; low = w.low; high = w.high })
     unfolding default_lines default_part first
-    integer_is w d = (rw (g, d), λ _. rw (g, d))
+    integer_is w d = record { verdict_value = rw (g, d); high_value = λ _. rw (g, d) }
 
     text_is : (w : Words) → default_read f ≡ Text w → IsDefault s list f at (record { verdict = Passed; kind = 3; low = w.low; high = w.high })
     unfolding default_lines default_part first
-    text_is w d = (rw (g, d), λ _. rw (g, d))
+    text_is w d = record { verdict_value = rw (g, d); high_value = λ _. rw (g, d) }
 
     unreadable_is : default_read f ≡ Unreadable → IsDefault s list f at (record { verdict = Stopped DefaultWrong at; kind = 0; low = 0; high = 0 })
     unfolding default_lines first
-    unreadable_is d = (rw (g, d), λ p. not_passed p)
+    unreadable_is d = record { verdict_value = rw (g, d); high_value = λ p. not_passed p }
 
     unsupported_is : default_read f ≡ Unsupported → IsDefault s list f at (record { verdict = Stopped DefaultBarred at; kind = 0; low = 0; high = 0 })
     unfolding default_lines first
-    unsupported_is d = (rw (g, d), λ p. not_passed p)
+    unsupported_is d = record { verdict_value = rw (g, d); high_value = λ p. not_passed p }
 
     value_is : (word m : ℕ) → default_read f ≡ ValueName → target Enum s list f.type_name ≡ aim.At word m → (v : Found) → value_in (file_by (in_sight s) word) m f.default ≡ v
         → IsDefault s list f at (value_default v at)
     unfolding default_lines default_part first
-    value_is word m d t (found.At k) v = (rw (g, d, t, v), λ _. rw (g, d, t, v))
-    value_is word m d t found.Nothing v = (rw (g, d, t, v), λ p. not_passed p)
+    value_is word m d t (found.At k) v = record { verdict_value = rw (g, d, t, v); high_value = λ _. rw (g, d, t, v) }
+    value_is word m d t found.Nothing v = record { verdict_value = rw (g, d, t, v); high_value = λ p. not_passed p }
 
     missing_is : default_read f ≡ ValueName → target Enum s list f.type_name ≡ aim.Missing
         → IsDefault s list f at (record { verdict = Stopped EnumMissing at; kind = 0; low = 0; high = 0 })
     unfolding default_lines first
-    missing_is d t = (rw (g, d, t), λ p. not_passed p)
+    missing_is d t = record { verdict_value = rw (g, d, t); high_value = λ p. not_passed p }
 
     name_is : (t : Target) → default_read f ≡ ValueName → target Enum s list f.type_name ≡ t → IsDefault s list f at (enum_default s list f at)
     name_is (aim.At word m) d t =

@@ -8,14 +8,14 @@ use image::rows::{Flat, Found, Kind};
 use image::{fields, links as link_rows, rows};
 
 // The mark of a message: it skips the completeness check, or may be incomplete, with the distance to the nearest cause.
-#[derive(Drop)]
+#[derive(Clone, Copy)]
 pub enum Mark {
     AlwaysInitialised,
     MayBeIncomplete(u32),
 }
 
 // What a message carries under a name: nothing, or a field, with its number.
-#[derive(Drop)]
+#[derive(Clone, Copy)]
 pub enum Carried {
     Nothing,
     Required(u32),

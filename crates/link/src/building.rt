@@ -12,7 +12,7 @@ use image::shelf;
 use image::shelf::Places;
 
 // What is sought by a name.
-#[derive(Drop)]
+#[derive(Clone, Copy)]
 pub enum Wanted {
     Message,
     Enum,
@@ -20,7 +20,7 @@ pub enum Wanted {
 
 // What a name or a type leads to: a file word (shelf number + 1) and a flat number, both 0 for a type that leads nowhere; or nothing where
 // a name leads nowhere.
-#[derive(Drop)]
+#[derive(Clone, Copy)]
 pub enum Target {
     At(u32, u32),
     Missing,

@@ -10,7 +10,7 @@ use image::shelf::Places;
 use image::{imports, rows, shelf, well_formed};
 
 // The files to be searched, in order: the first `count` of `files`; the rest are 0.
-#[derive(Drop)]
+#[derive(Clone, Copy)]
 pub struct SearchList {
     pub files: [u32; 32],
     pub count: u32,

@@ -21,7 +21,7 @@ use names::runtime_type_box::{DefaultRead, TypeRead};
 use names::{bytes as name_bytes, runtime_type_box};
 
 // A default: no refusal, and its kind with two words; or a refusal.
-#[derive(Drop)]
+#[derive(Clone, Copy)]
 pub struct DefaultLinked {
     pub verdict: Verdict,
     pub kind: u32,
@@ -243,7 +243,7 @@ fn index_default(
 }
 
 // A file word and an index: no refusal, or one.
-#[derive(Drop)]
+#[derive(Clone, Copy)]
 pub struct PairLinked {
     pub verdict: Verdict,
     pub file: u32,
@@ -356,7 +356,7 @@ fn index_element(
 }
 
 // Shape; type, file and index; the same three for a map's value: no refusal, or one.
-#[derive(Drop)]
+#[derive(Clone, Copy)]
 pub struct TypeLinked {
     pub verdict: Verdict,
     pub words: [u32; 7],
@@ -595,7 +595,7 @@ fn index_type(
 }
 
 // A field's link row: no refusal, and sixteen words; or a refusal.
-#[derive(Drop)]
+#[derive(Clone, Copy)]
 pub struct FieldLinked {
     pub verdict: Verdict,
     pub words: [u32; 16],

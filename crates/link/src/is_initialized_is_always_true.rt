@@ -21,13 +21,13 @@ use image::shelf::Places;
 use image::{links, rows, shelf};
 
 // The words of 256 messages.
-#[derive(Drop)]
+#[derive(Clone, Copy)]
 pub struct Marks {
     pub d: [u32; 256],
 }
 
 // A round's outcome: the words, and whether any was set.
-#[derive(Drop)]
+#[derive(Clone, Copy)]
 pub struct Round {
     pub d: [u32; 256],
     pub changed: bool,

@@ -20,7 +20,8 @@ pub(crate) fn judge_lengths(
 ) -> Verdict
     ensures { result ≡ first (length_lines (record { words = words.entry.now; bytes = bytes.now; used = used; image = image.now; pool = pool.now })) }
 {
-    if 262144 < words.len() {
+    let is_long = 262144 < words.len();
+    if is_long {
         return Verdict::Stopped(Refusal::TooLong, 0);
     }
     if 131072 < bytes.len() {

@@ -1,4 +1,6 @@
 // The linker. Below stand `image`, what images and shelves say, and `names`, the rules of texts; what is cited of them is what they promise.
+#![tactic(auto)]
+
 pub mod audit;
 mod building;
 mod fds;

@@ -23,7 +23,7 @@ use image::verdict::{Refusal, Verdict};
 use image::{judge as image_judge, links as link_rows, rows, well_formed};
 
 // The three numbers behind the new record; or a refusal with its place.
-#[derive(Drop)]
+#[derive(Clone, Copy)]
 pub enum Linked {
     Accepted(Used),
     Refused(Refusal, u32),

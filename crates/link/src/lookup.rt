@@ -16,7 +16,7 @@ use image::{full_name, rows, shelf, well_formed};
 use names::name::Fronted;
 
 // What a lookup answers: a number, nothing, or a refusal of the shelf.
-#[derive(Drop)]
+#[derive(Clone, Copy)]
 pub enum Looked {
     Found(u32),
     Nothing,
@@ -48,20 +48,20 @@ impl Looked {
 }
 
 // The verdict of 1 and 2 on a shelf, and where its files stand.
-#[derive(Drop)]
+#[derive(Clone, Copy)]
 pub struct Checked {
     pub verdict: Verdict,
     pub places: Places,
 }
 
 // Whether a lookup goes on in a file, or has its answer.
-#[derive(Drop)]
+#[derive(Clone, Copy)]
 enum Way {
     On,
     Done(Looked),
 }
 
-#[derive(Drop)]
+#[derive(Clone, Copy)]
 struct Opened {
     way: Way,
     places: Places,
