@@ -10,7 +10,7 @@ use names::bytes::is_prefix_of;
 use names::name::put_front;
 
 // How many words and bytes a file holds.
-#[derive(Drop)]
+#[derive(Clone, Copy)]
 pub struct Sizes {
     pub words: u32,
     pub bytes: u32,
@@ -18,7 +18,7 @@ pub struct Sizes {
 
 // Why a file is not read: it begins otherwise, it has another version, it is shorter or longer than it says, or it says
 // more words or bytes than there is room for.
-#[derive(Drop)]
+#[derive(Clone, Copy)]
 pub enum Fault {
     Foreign,
     OtherVersion,
@@ -27,14 +27,14 @@ pub enum Fault {
 }
 
 // How much of the lent slices was filled; or a fault, and they are as they were.
-#[derive(Drop)]
+#[derive(Clone, Copy)]
 pub enum FileRead {
     Whole(Sizes),
     Unread(Fault),
 }
 
 // How long the file is that now stands in front of the lent bytes; or that nothing was written.
-#[derive(Drop)]
+#[derive(Clone, Copy)]
 pub enum Written {
     Bytes(usize),
     Nothing,

@@ -7,7 +7,7 @@ use crate::file::{Fault, FileRead, Written, read_file, write_file};
 use crate::words::word_at;
 
 // How many words and bytes of a shelf are used, and by how many files.
-#[derive(Drop)]
+#[derive(Clone, Copy)]
 pub struct ShelfSizes {
     pub words: u32,
     pub bytes: u32,
@@ -15,7 +15,7 @@ pub struct ShelfSizes {
 }
 
 // The numbers of the shelf that now stands in front of the lent slices; or a fault, and they are as they were.
-#[derive(Drop)]
+#[derive(Clone, Copy)]
 pub enum ShelfRead {
     Whole(ShelfSizes),
     Unread(Fault),

@@ -2,15 +2,11 @@
 use Prim.Native.Nat.{ℕ, ◌-◌, ◌%◌, ◌^◌, ◌≤◌}
 use native.Mathlib.Omega.{arith}
 use mathlib.Core.Path.{◌≡◌, refl}
-use mathlib.Core.List.{[], ◌∷◌}
 use mathlib.Core.Option.{Option, none, some}
-use denote.Enum.Declared.{tag_of}
-use types.Run.{OneOf, miss}
 use Rattle.names.specs.Integer.{as_integer, twos_complement}
 use Rattle.names.specs.Default.{integer_default}
 use Rattle.names.specs.declared.runtime_type_box.Words.{Words}
 use Rattle.names.specs.declared.runtime_type_box.DefaultRead.{DefaultRead}
-use Rattle.names.specs.contracts.runtime_type_box.DefaultRead.{the_type}
 use Rattle.names.specs.declared.runtime_type_box.DefaultRead.TheVariants.{Integer}
 use Rattle.tokens.specs.Tokens.{or_zero}
 
@@ -21,7 +17,7 @@ number_read none w h e = absurd (let z : ◌≡◌ {A = ℕ} 0 1 = cc in omega a
 number_read (some n) w h e = let q : n % (2 ^ 32) ≡ w.low = cc in omega (arith, h n refl, q)
 
 -- none was read: the answer is none of an integer
-pub number_none : (o : Option ℕ) (d : DefaultRead) → d ≡ integer_default (as_integer o) → OneOf (1 ∷ 2 ∷ 3 ∷ 4 ∷ []) (tag_of the_type d) → 0 ≡ or_zero o
+pub number_none : (o : Option ℕ) (d : DefaultRead) → d ≡ integer_default (as_integer o) → ((w : Words) → d ≡ Integer w → ⊥) → 0 ≡ or_zero o
 unfolding integer_default as_integer twos_complement
 number_none none d e k = refl
-number_none (some n) d e k = absurd (miss (1 ∷ 2 ∷ 3 ∷ 4 ∷ []) 0 tt (rw e at k))
+number_none (some n) d e k = absurd (k _ e)

@@ -5,7 +5,7 @@ ghost use Rattle.tokens.specs.Heads.{is_outside, is_met, expected_at, head_of};
 use crate::{Token, is, next, number};
 
 // What a case expects of a file.
-#[derive(Drop)]
+#[derive(Clone, Copy)]
 pub enum Expect {
     Domain,
     Refused(u32),
@@ -14,14 +14,14 @@ pub enum Expect {
 }
 
 // What is expected, and where the tokens end that say so.
-#[derive(Drop)]
+#[derive(Clone, Copy)]
 pub struct Expected {
     pub expect: Expect,
     pub end: usize,
 }
 
 // How many words and bytes a file has, what is expected of it, and where its words start.
-#[derive(Drop)]
+#[derive(Clone, Copy)]
 pub struct Head {
     pub words: u32,
     pub bytes: u32,

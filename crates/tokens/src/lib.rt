@@ -2,6 +2,8 @@
 // space. `#` starts a comment that runs to the end of its line.
 //
 // Below stands `names`, by whose rule a number is read. Every public function is total: any bytes and any places are answered.
+#![tactic(auto)]
+
 pub mod heads;
 
 ghost use Rattle.std.specs.Prelude.{◌≡◌, ◌||◌, eqb, take, drop, set};
@@ -13,7 +15,7 @@ use names::bytes;
 use names::runtime_type_box::{DefaultRead, RuntimeType, parse_proto_default_value};
 
 // Where a token stands: from `start` up to `end`. Where no token is left the two are equal.
-#[derive(Drop)]
+#[derive(Clone, Copy)]
 pub struct Token {
     pub start: usize,
     pub end: usize,

@@ -1,0 +1,15 @@
+-- `tokens::read_bytes` meets its contract: what is left of the text gives what is left to read. Assumes nothing.
+use mathlib.Core.Path.{ap, ◌∙◌}
+use Rattle.tokens.specs.Reading.{low_byte}
+use Rattle.tokens.proofs.ReadingLaws.{reading_start, reading_more, reading_end}
+use Rattle.tokens.proofs.read_bytes.Goals as goal
+
+pub loop-i-init : goal.loop-i-init
+loop-i-init c = reading_start _ _ _ _ _
+
+pub loop-i-preserved : goal.loop-i-preserved
+loop-i-preserved c = reading_more c.loop-i.invariant c.loop-i-test.true c.next-t.result c.low_byte.result c.set_byte.new.bytes c.next-t.ensures
+    (c.low_byte.ensures ∙ ap low_byte c.number.ensures) c.set_byte.ensures
+
+pub returns : goal.returns
+returns c = let e = reading_end c.loop-i.invariant c.loop-i-test.false in record { value = e.0; bytes_after = e.1 }

@@ -1,0 +1,11 @@
+-- `tokens::read_words` meets its contract: what is left of the text gives what is left to read. Assumes nothing.
+use Prim.Native.Nat.{◌-◌}
+use Rattle.tokens.specs.Tokens.{number_of}
+use Rattle.tokens.proofs.ReadingLaws.{Reading}
+use Rattle.tokens.proofs.read_words.Given as goal
+
+abbrev pub invariant-loop-i : goal.invariant-loop-i
+invariant-loop-i l = Reading (number_of l.text) l.text l.at l.n l.initial.words l.words l.end l.i
+
+abbrev pub decreases-loop-i : goal.decreases-loop-i
+decreases-loop-i l = l.n - l.i
