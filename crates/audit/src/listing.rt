@@ -10,6 +10,7 @@ use shelf_io::sentences::tell_file;
 
 // What a message has under the name of the field that is asked for.
 fn list_carried(
+    rt: &impl Print,
     image: &[u32],
     pool: &[u8],
     links: &[u32],
@@ -18,11 +19,12 @@ fn list_carried(
     t: Tally,
 ) -> Tally {
     let c = audit::carried_under(image, pool, links, Flat(m), field);
-    tell::tell_carried(field, c);
+    tell::tell_carried(rt, field, c);
     t.carried(c, audit::passes_without(image, c))
 }
 
 fn list_message(
+    rt: &impl Print,
     image: &[u32],
     pool: &[u8],
     links: &[u32],
@@ -32,21 +34,22 @@ fn list_message(
     t: Tally,
 ) -> Tally {
     let mark = audit::mark_of(links, Flat(m));
-    say::text(b"  ");
-    say::spaces(tell::tell_name(image, pool, links, m), 32);
-    let n = tell::tell_mark(mark);
+    say::text(rt, b"  ");
+    say::spaces(rt, tell::tell_name(rt, image, pool, links, m), 32);
+    let n = tell::tell_mark(rt, mark);
     let counted = t.message(mark);
     if !asked {
-        say::text(b"\n");
+        say::text(rt, b"\n");
         return counted;
     }
-    say::spaces(n, 40);
-    let known = list_carried(image, pool, links, m, field, counted);
-    say::text(b"\n");
+    say::spaces(rt, n, 40);
+    let known = list_carried(rt, image, pool, links, m, field, counted);
+    say::text(rt, b"\n");
     known
 }
 
 fn list_messages(
+    rt: &impl Print,
     image: &[u32],
     pool: &[u8],
     links: &[u32],
@@ -58,13 +61,14 @@ fn list_messages(
     let mut counted = t;
     let mut m = 0;
     while m < n {
-        counted = list_message(image, pool, links, m, asked, field, counted);
+        counted = list_message(rt, image, pool, links, m, asked, field, counted);
         m += 1;
     }
     counted
 }
 
 fn list_file(
+    rt: &impl Print,
     words: &[u32],
     bytes: &[u8],
     p: Places,
@@ -76,12 +80,13 @@ fn list_file(
     let image = shelf::file_image(words, bytes, p, f);
     let pool = shelf::file_pool(words, bytes, p, f);
     let links = shelf::file_links(words, bytes, p, f);
-    tell_file(f, well_formed::file_name(words, bytes, p, f));
-    say::text(b"\n");
-    list_messages(image, pool, links, asked, field, t)
+    tell_file(rt, f, well_formed::file_name(words, bytes, p, f));
+    say::text(rt, b"\n");
+    list_messages(rt, image, pool, links, asked, field, t)
 }
 
 pub fn list_files(
+    rt: &impl Print,
     words: &[u32],
     bytes: &[u8],
     p: Places,
@@ -92,7 +97,7 @@ pub fn list_files(
     let mut t = tally::start();
     let mut f = 0;
     while f < files {
-        t = list_file(words, bytes, p, f, asked, field, t);
+        t = list_file(rt, words, bytes, p, f, asked, field, t);
         f += 1;
     }
     t

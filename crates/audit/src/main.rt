@@ -4,48 +4,52 @@
 //
 // Each message is said to skip the completeness check, or how far it is from what can be incomplete. With FIELD it is said what each
 // message has under that own name, and at the end which messages carry it and can pass the check without it.
+#![tactic(auto)]
+
 mod listing;
 mod passing;
 mod tally;
 mod tell;
 
 use image::shelf::Places;
-use shelf_io::arguments::read_word;
+use shelf_io::arguments::{count_words, read_word};
 use shelf_io::shelves::State;
 use shelf_io::{say, shelves};
+use std::rt::{Env, Files};
 use tokens::front_bytes;
 
 // Lists `files` files. `asked` says whether a field is asked for.
-fn audit(words: &[u32], bytes: &[u8], p: Places, files: u32, asked: bool) {
+fn audit(rt: &(impl Env + Print), words: &[u32], bytes: &[u8], p: Places, files: u32, asked: bool) {
     let mut buffer = io::buffer();
-    let n = read_word(2, &mut buffer);
+    let n = read_word(rt, 2, &mut buffer);
     let field = front_bytes(&buffer, n);
-    let t = listing::list_files(words, bytes, p, files, asked, field);
+    let t = listing::list_files(rt, words, bytes, p, files, asked, field);
     if t.passing != 0 {
-        passing::list_files(words, bytes, p, files, field);
+        passing::list_files(rt, words, bytes, p, files, field);
     }
-    tally::tell(t, files, asked, field);
+    tally::tell(rt, t, files, asked, field);
 }
 
-fn run(words: &mut [u32], bytes: &mut [u8], file: &mut [u8]) {
-    let count = os::arg_count();
+fn run(rt: &(impl Env + Files + Print), words: &mut [u32], bytes: &mut [u8], file: &mut [u8]) {
+    let count = count_words(rt);
     if count < 2 || 3 < count {
         say::text(
+            rt,
             b"usage: audit SHELF [FIELD]   lists which messages of a shelf file can be incomplete, and what they have under a field's name\n",
         );
         return;
     }
-    let opened = shelves::open_named(1, file, words, bytes);
+    let opened = shelves::open_named(rt, 1, file, words, bytes);
     let state = opened.state;
     let places = opened.places;
     if let State::Ready = state {
-        audit(words, bytes, places, opened.used.files, count == 3);
+        audit(rt, words, bytes, places, opened.used.files, count == 3);
     }
 }
 
-fn main() {
+fn main(rt: HostRuntime) {
     let mut words = [0u32; shelves::SHELF_WORDS];
     let mut bytes = [0u8; shelves::SHELF_BYTES];
     let mut file = [0u8; shelves::FILE_ROOM];
-    run(&mut words, &mut bytes, &mut file);
+    run(&rt, &mut words, &mut bytes, &mut file);
 }

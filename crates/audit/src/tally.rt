@@ -3,7 +3,7 @@ use link::audit::{Carried, Mark};
 use shelf_io::counts::one_more;
 use shelf_io::say;
 
-#[derive(Drop)]
+#[derive(Clone, Copy)]
 pub struct Tally {
     pub messages: u64,
     pub marked: u64,
@@ -42,21 +42,21 @@ impl Tally {
 }
 
 // The last line.
-pub fn tell(t: Tally, files: u32, asked: bool, field: &[u8]) {
-    say::number(files as u64);
-    say::text(b" files, ");
-    say::number(t.messages);
-    say::text(b" messages, ");
-    say::number(t.marked);
-    say::text(b" may be incomplete");
+pub fn tell(rt: &impl Print, t: Tally, files: u32, asked: bool, field: &[u8]) {
+    say::number(rt, files as u64);
+    say::text(rt, b" files, ");
+    say::number(rt, t.messages);
+    say::text(rt, b" messages, ");
+    say::number(rt, t.marked);
+    say::text(rt, b" may be incomplete");
     if asked {
-        say::text(b"; ");
-        say::number(t.carrying);
-        say::text(b" carry ");
-        say::text(field);
-        say::text(b", ");
-        say::number(t.passing);
-        say::text(b" can pass the check without it");
+        say::text(rt, b"; ");
+        say::number(rt, t.carrying);
+        say::text(rt, b" carry ");
+        say::text(rt, field);
+        say::text(rt, b", ");
+        say::number(rt, t.passing);
+        say::text(rt, b" can pass the check without it");
     }
-    say::text(b"\n");
+    say::text(rt, b"\n");
 }

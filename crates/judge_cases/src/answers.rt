@@ -5,7 +5,7 @@ use image::verdict::Verdict;
 use image::{fields, judge, rows};
 
 // A refusal's number and place, and number 0 where none is given.
-#[derive(Drop)]
+#[derive(Clone, Copy)]
 pub struct Answer {
     pub number: u32,
     pub place: u32,
@@ -74,13 +74,13 @@ pub fn answer_to(image: &[u32], pool: &[u8], links: &mut [u32]) -> Answer {
 }
 
 // Says a refusal with its place, or that there is none.
-pub fn say(a: Answer) {
+pub fn say(rt: &impl Print, a: Answer) {
     if a.number == 0 {
-        out::text(b"passed");
+        out::text(rt, b"passed");
         return;
     }
-    out::text(b"refused, ");
-    out::number(a.number as u64);
-    out::text(b" at ");
-    out::number(a.place as u64);
+    out::text(rt, b"refused, ");
+    out::number(rt, a.number as u64);
+    out::text(rt, b" at ");
+    out::number(rt, a.place as u64);
 }

@@ -3,7 +3,7 @@
 use crate::{answers, say};
 
 // How many rows of each kind there are. The file owns enums and fields, its first message the oneofs, the first enum the values.
-#[derive(Drop)]
+#[derive(Clone, Copy)]
 struct Crowd {
     imports: u16,
     messages: u16,
@@ -14,7 +14,7 @@ struct Crowd {
 }
 
 // Where the sections start, and the trailer.
-#[derive(Drop)]
+#[derive(Clone, Copy)]
 struct Starts {
     messages: u32,
     enums: u32,
@@ -139,22 +139,22 @@ fn build(words: &mut [u32], c: Crowd, s: Starts) {
 }
 
 // Judges the words up to the end of the trailer, and says what was answered.
-fn show(label: &[u8], words: &[u32], trailer: u32) {
+fn show(rt: &impl Print, label: &[u8], words: &[u32], trailer: u32) {
     let pool = [97u8; 600];
     let mut links = [0u32; 4096];
     let end = trailer as usize + 24;
     let a = answers::answer_to(tokens::front_words(words, end), &pool, &mut links);
-    say::text(label);
-    say::text(b": ");
-    answers::say(a);
-    say::text(b"\n");
+    say::text(rt, label);
+    say::text(rt, b": ");
+    answers::say(rt, a);
+    say::text(rt, b"\n");
 }
 
-fn show_crowd(label: &[u8], c: Crowd) {
+fn show_crowd(rt: &impl Print, label: &[u8], c: Crowd) {
     let mut words = [0u32; 34000];
     let s = sections_of(c);
     build(&mut words, c, s);
-    show(label, &words, s.trailer);
+    show(rt, label, &words, s.trailer);
 }
 
 // One message, and so many rows of other kinds.
@@ -169,24 +169,24 @@ fn with(imports: u16, messages: u16, enums: u16, values: u16, oneofs: u16, field
     }
 }
 
-fn crowds() {
-    show_crowd(b"32 imports", with(32, 1, 0, 0, 0, 0));
-    show_crowd(b"33 imports", with(33, 1, 0, 0, 0, 0));
-    show_crowd(b"256 messages of one name", with(0, 256, 0, 0, 0, 0));
-    show_crowd(b"257 messages", with(0, 257, 0, 0, 0, 0));
-    show_crowd(b"256 enums of one name", with(0, 0, 256, 0, 0, 0));
-    show_crowd(b"257 enums", with(0, 0, 257, 0, 0, 0));
-    show_crowd(b"4096 values", with(0, 0, 1, 4096, 0, 0));
-    show_crowd(b"4097 values", with(0, 0, 1, 4097, 0, 0));
-    show_crowd(b"256 oneofs", with(0, 1, 0, 0, 256, 0));
-    show_crowd(b"257 oneofs", with(0, 1, 0, 0, 257, 0));
-    show_crowd(b"2048 fields", with(0, 1, 0, 0, 0, 2048));
-    show_crowd(b"2049 fields", with(0, 1, 0, 0, 0, 2049));
+fn crowds(rt: &impl Print) {
+    show_crowd(rt, b"32 imports", with(32, 1, 0, 0, 0, 0));
+    show_crowd(rt, b"33 imports", with(33, 1, 0, 0, 0, 0));
+    show_crowd(rt, b"256 messages of one name", with(0, 256, 0, 0, 0, 0));
+    show_crowd(rt, b"257 messages", with(0, 257, 0, 0, 0, 0));
+    show_crowd(rt, b"256 enums of one name", with(0, 0, 256, 0, 0, 0));
+    show_crowd(rt, b"257 enums", with(0, 0, 257, 0, 0, 0));
+    show_crowd(rt, b"4096 values", with(0, 0, 1, 4096, 0, 0));
+    show_crowd(rt, b"4097 values", with(0, 0, 1, 4097, 0, 0));
+    show_crowd(rt, b"256 oneofs", with(0, 1, 0, 0, 256, 0));
+    show_crowd(rt, b"257 oneofs", with(0, 1, 0, 0, 257, 0));
+    show_crowd(rt, b"2048 fields", with(0, 1, 0, 0, 0, 2048));
+    show_crowd(rt, b"2049 fields", with(0, 1, 0, 0, 0, 2049));
 }
 
 // Messages that stand in one another, the last with an enum: so many of them, the length of their names, of the last one's, of the
 // enum's (0: there is none) and of the package.
-#[derive(Drop)]
+#[derive(Clone, Copy)]
 struct Chain {
     count: u16,
     name: u32,
@@ -230,14 +230,14 @@ fn enums_of(n: Chain) -> u16 {
     1
 }
 
-fn show_chain(label: &[u8], n: Chain) {
+fn show_chain(rt: &impl Print, label: &[u8], n: Chain) {
     let mut words = [0u32; 1000];
     let c = with(0, n.count, enums_of(n), 0, 0, 0);
     let s = sections_of(c);
     build(&mut words, c, s);
     nest(&mut words, s, n);
     put_inside(&mut words, s, n);
-    show(label, &words, s.trailer);
+    show(rt, label, &words, s.trailer);
 }
 
 fn nested(count: u16, name: u32, last: u32, inner: u32, package: u32) -> Chain {
@@ -250,29 +250,35 @@ fn nested(count: u16, name: u32, last: u32, inner: u32, package: u32) -> Chain {
     }
 }
 
-fn chains() {
-    show_chain(b"16 messages in one another", nested(16, 1, 1, 0, 0));
-    show_chain(b"17 messages in one another", nested(17, 1, 1, 0, 0));
-    show_chain(b"16 messages, an enum in the last", nested(16, 1, 1, 1, 0));
-    show_chain(b"a full name of 512 bytes", nested(6, 64, 58, 0, 128));
-    show_chain(b"a full name of 513 bytes", nested(6, 64, 59, 0, 128));
+fn chains(rt: &impl Print) {
+    show_chain(rt, b"16 messages in one another", nested(16, 1, 1, 0, 0));
+    show_chain(rt, b"17 messages in one another", nested(17, 1, 1, 0, 0));
     show_chain(
+        rt,
+        b"16 messages, an enum in the last",
+        nested(16, 1, 1, 1, 0),
+    );
+    show_chain(rt, b"a full name of 512 bytes", nested(6, 64, 58, 0, 128));
+    show_chain(rt, b"a full name of 513 bytes", nested(6, 64, 59, 0, 128));
+    show_chain(
+        rt,
         b"an enum's full name of 512 bytes",
         nested(5, 64, 64, 58, 128),
     );
     show_chain(
+        rt,
         b"an enum's full name of 513 bytes",
         nested(5, 64, 64, 59, 128),
     );
-    show_chain(b"a message name of 64 bytes", nested(1, 1, 64, 0, 0));
-    show_chain(b"a message name of 65 bytes", nested(1, 1, 65, 0, 0));
-    show_chain(b"a package of 128 bytes", nested(1, 1, 1, 0, 128));
-    show_chain(b"a package of 129 bytes", nested(1, 1, 1, 0, 129));
+    show_chain(rt, b"a message name of 64 bytes", nested(1, 1, 64, 0, 0));
+    show_chain(rt, b"a message name of 65 bytes", nested(1, 1, 65, 0, 0));
+    show_chain(rt, b"a package of 128 bytes", nested(1, 1, 1, 0, 128));
+    show_chain(rt, b"a package of 129 bytes", nested(1, 1, 1, 0, 129));
 }
 
 // One row of every kind, with one word of it changed: word k of the section that starts at `start`. For a field, its type and whether
 // a default is given, too.
-fn changed(label: &[u8], start: u32, k: u32, word: u32, kind: u32, given: u32) {
+fn changed(rt: &impl Print, label: &[u8], start: u32, k: u32, word: u32, kind: u32, given: u32) {
     let mut words = [0u32; 200];
     let c = with(1, 1, 1, 1, 1, 1);
     let s = sections_of(c);
@@ -280,26 +286,27 @@ fn changed(label: &[u8], start: u32, k: u32, word: u32, kind: u32, given: u32) {
     set(&mut words, s.fields, 4, kind);
     set(&mut words, s.fields, 11, given);
     set(&mut words, start, k, word);
-    show(label, &words, s.trailer);
+    show(rt, label, &words, s.trailer);
 }
 
-fn names() {
+fn names(rt: &impl Print) {
     let s = sections_of(with(1, 1, 1, 1, 1, 1));
-    changed(b"an import's name of 128 bytes", 0, 1, 128, 5, 0);
-    changed(b"an import's name of 129 bytes", 0, 1, 129, 5, 0);
-    changed(b"a file name of 128 bytes", s.trailer, 2, 128, 5, 0);
-    changed(b"a file name of 129 bytes", s.trailer, 2, 129, 5, 0);
-    changed(b"an enum name of 65 bytes", s.enums, 1, 65, 5, 0);
-    changed(b"a value name of 65 bytes", s.values, 1, 65, 5, 0);
-    changed(b"a oneof name of 65 bytes", s.oneofs, 1, 65, 5, 0);
-    changed(b"a field name of 65 bytes", s.fields, 1, 65, 5, 0);
+    changed(rt, b"an import's name of 128 bytes", 0, 1, 128, 5, 0);
+    changed(rt, b"an import's name of 129 bytes", 0, 1, 129, 5, 0);
+    changed(rt, b"a file name of 128 bytes", s.trailer, 2, 128, 5, 0);
+    changed(rt, b"a file name of 129 bytes", s.trailer, 2, 129, 5, 0);
+    changed(rt, b"an enum name of 65 bytes", s.enums, 1, 65, 5, 0);
+    changed(rt, b"a value name of 65 bytes", s.values, 1, 65, 5, 0);
+    changed(rt, b"a oneof name of 65 bytes", s.oneofs, 1, 65, 5, 0);
+    changed(rt, b"a field name of 65 bytes", s.fields, 1, 65, 5, 0);
 }
 
-fn field_texts() {
+fn field_texts(rt: &impl Print) {
     let s = sections_of(with(1, 1, 1, 1, 1, 1));
-    changed(b"a type name of 512 bytes", s.fields, 6, 512, 11, 0);
-    changed(b"a type name of 513 bytes", s.fields, 6, 513, 11, 0);
+    changed(rt, b"a type name of 512 bytes", s.fields, 6, 512, 11, 0);
+    changed(rt, b"a type name of 513 bytes", s.fields, 6, 513, 11, 0);
     changed(
+        rt,
         b"a type name of 513 bytes on an int32",
         s.fields,
         6,
@@ -307,12 +314,13 @@ fn field_texts() {
         5,
         0,
     );
-    changed(b"an extendee of 513 bytes", s.fields, 8, 513, 5, 0);
-    changed(b"a JSON name of 64 bytes", s.fields, 10, 64, 5, 0);
-    changed(b"a JSON name of 65 bytes", s.fields, 10, 65, 5, 0);
-    changed(b"a default of 256 bytes", s.fields, 13, 256, 9, 1);
-    changed(b"a default of 257 bytes", s.fields, 13, 257, 9, 1);
+    changed(rt, b"an extendee of 513 bytes", s.fields, 8, 513, 5, 0);
+    changed(rt, b"a JSON name of 64 bytes", s.fields, 10, 64, 5, 0);
+    changed(rt, b"a JSON name of 65 bytes", s.fields, 10, 65, 5, 0);
+    changed(rt, b"a default of 256 bytes", s.fields, 13, 256, 9, 1);
+    changed(rt, b"a default of 257 bytes", s.fields, 13, 257, 9, 1);
     changed(
+        rt,
         b"a default of 257 bytes, not given",
         s.fields,
         13,
@@ -322,9 +330,9 @@ fn field_texts() {
     );
 }
 
-pub fn run() {
-    crowds();
-    chains();
-    names();
-    field_texts();
+pub fn run(rt: &impl Print) {
+    crowds(rt);
+    chains(rt);
+    names(rt);
+    field_texts(rt);
 }

@@ -64,34 +64,34 @@ fn behind_expected(text: &[u8], t: Token) -> usize {
     t.end
 }
 
-fn say_links(links: &[u32], n: usize) {
+fn say_links(rt: &impl Print, links: &[u32], n: usize) {
     let mut i = 0;
     while i < n {
-        say::text(b" ");
-        say::number(rows::word_at(links, i) as u64);
+        say::text(rt, b" ");
+        say::number(rt, rows::word_at(links, i) as u64);
         i += 1;
     }
 }
 
 // Judges a file and says what was answered, and whether its case says something else.
-fn judge(text: &[u8], t: Token, image: &[u32], pool: &[u8]) {
+fn judge(rt: &impl Print, text: &[u8], t: Token, image: &[u32], pool: &[u8]) {
     let mut links = [0u32; 4096];
     let a = answers::answer_to(image, pool, &mut links);
-    say::text(b"  ");
-    answers::say(a);
+    say::text(rt, b"  ");
+    answers::say(rt, a);
     if a.number == 0 {
-        say::text(b":");
+        say::text(rt, b":");
         let n = link_rows::link_words(rows::read_sections(image));
-        say_links(&links, n);
+        say_links(rt, &links, n);
     }
     if is_unexpected(text, t, a) {
-        say::text(b" (the case says otherwise)");
+        say::text(rt, b" (the case says otherwise)");
     }
-    say::text(b"\n");
+    say::text(rt, b"\n");
 }
 
 // A file that starts behind `at`; the answer is where it ends.
-fn read_file(text: &[u8], at: usize) -> usize {
+fn read_file(rt: &impl Print, text: &[u8], at: usize) -> usize {
     let mut image = [0u32; 65536];
     let mut pool = [0u8; 32768];
     let words = tokens::next(text, at);
@@ -100,16 +100,17 @@ fn read_file(text: &[u8], at: usize) -> usize {
     let w = tokens::number(text, words) as usize;
     let b = tokens::number(text, bytes) as usize;
     if 65536 < w {
-        say::text(b"  not read: an image longer than 65,536 words\n");
+        say::text(rt, b"  not read: an image longer than 65,536 words\n");
         return expect.end;
     }
     if 32768 < b {
-        say::text(b"  not read: a pool longer than 32,768 bytes\n");
+        say::text(rt, b"  not read: a pool longer than 32,768 bytes\n");
         return expect.end;
     }
     let middle = tokens::read_words(text, behind_expected(text, expect), &mut image, w);
     let end = tokens::read_bytes(text, middle, &mut pool, b);
     judge(
+        rt,
         text,
         expect,
         tokens::front_words(&image, w),
@@ -119,27 +120,27 @@ fn read_file(text: &[u8], at: usize) -> usize {
 }
 
 // The case, file or shelf that starts at `at`; the answer is where it ends.
-fn step(text: &[u8], at: usize) -> usize {
+fn step(rt: &impl Print, text: &[u8], at: usize) -> usize {
     let t = tokens::next(text, at);
     if tokens::is(text, t, b"case") {
         let name = tokens::next(text, t.end);
-        say::text(tokens::bytes_of(text, name));
-        say::text(b"\n");
+        say::text(rt, tokens::bytes_of(text, name));
+        say::text(rt, b"\n");
         return tokens::next(text, name.end).end;
     }
     if tokens::is(text, t, b"file") {
-        return read_file(text, t.end);
+        return read_file(rt, text, t.end);
     }
     if tokens::is(text, t, b"shelf") {
-        return shelves::read_shelf(text, t.end);
+        return shelves::read_shelf(rt, text, t.end);
     }
     t.end
 }
 
-pub fn run(text: &[u8]) {
+pub fn run(rt: &impl Print, text: &[u8]) {
     let mut at = 0;
     while at < text.len() {
-        let next = step(text, at);
+        let next = step(rt, text, at);
         if next <= at {
             return;
         }

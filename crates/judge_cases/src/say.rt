@@ -1,10 +1,10 @@
 // What a line is made of.
-use libc::STDOUT_FILENO;
 
-pub fn text(s: &[u8]) {
-    io::write_all(STDOUT_FILENO, s);
+// What cannot be written is passed over.
+pub fn text(rt: &impl Print, s: &[u8]) {
+    let _ = rt.write_all(s);
 }
 
-pub fn number(n: u64) {
-    io::print_decimal(STDOUT_FILENO, n);
+pub fn number(rt: &impl Print, n: u64) {
+    let _ = rt.print(n);
 }

@@ -11,36 +11,50 @@ use image::{rows, well_formed};
 use tokens::Token;
 
 // Asks and says what was answered.
-fn judge(text: &[u8], name: Token, words: &[u32], bytes: &[u8], used: Used) {
-    say::text(b"  ");
-    say::text(tokens::bytes_of(text, name));
+fn judge(rt: &impl Print, text: &[u8], name: Token, words: &[u32], bytes: &[u8], used: Used) {
+    say::text(rt, b"  ");
+    say::text(rt, tokens::bytes_of(text, name));
     if well_formed::is_well_formed(words, bytes, used) {
-        say::text(b": well formed\n");
+        say::text(rt, b": well formed\n");
     } else {
-        say::text(b": not well formed\n");
+        say::text(rt, b": not well formed\n");
     }
 }
 
 // The shelf with one word changed.
-fn with_word(text: &[u8], name: Token, words: &mut [u32], bytes: &[u8], used: Used) -> usize {
+fn with_word(
+    rt: &impl Print,
+    text: &[u8],
+    name: Token,
+    words: &mut [u32],
+    bytes: &[u8],
+    used: Used,
+) -> usize {
     let place = tokens::next(text, name.end);
     let value = tokens::next(text, place.end);
     let at = tokens::number(text, place) as usize;
     let was = rows::word_at(words, at);
     tokens::set_word(words, at, tokens::number(text, value));
-    judge(text, name, words, bytes, used);
+    judge(rt, text, name, words, bytes, used);
     tokens::set_word(words, at, was);
     value.end
 }
 
 // The shelf with one byte changed.
-fn with_byte(text: &[u8], name: Token, words: &[u32], bytes: &mut [u8], used: Used) -> usize {
+fn with_byte(
+    rt: &impl Print,
+    text: &[u8],
+    name: Token,
+    words: &[u32],
+    bytes: &mut [u8],
+    used: Used,
+) -> usize {
     let place = tokens::next(text, name.end);
     let value = tokens::next(text, place.end);
     let at = tokens::number(text, place) as usize;
     let was = byte_at(bytes, at);
     tokens::set_byte(bytes, at, tokens::low_byte(tokens::number(text, value)));
-    judge(text, name, words, bytes, used);
+    judge(rt, text, name, words, bytes, used);
     tokens::set_byte(bytes, at, was);
     value.end
 }
@@ -53,7 +67,7 @@ fn byte_at(bytes: &[u8], at: usize) -> u8 {
 }
 
 // The shelf with other numbers.
-fn with_numbers(text: &[u8], name: Token, words: &[u32], bytes: &[u8]) -> usize {
+fn with_numbers(rt: &impl Print, text: &[u8], name: Token, words: &[u32], bytes: &[u8]) -> usize {
     let w = tokens::next(text, name.end);
     let b = tokens::next(text, w.end);
     let f = tokens::next(text, b.end);
@@ -62,31 +76,45 @@ fn with_numbers(text: &[u8], name: Token, words: &[u32], bytes: &[u8]) -> usize 
         bytes: tokens::number(text, b),
         files: tokens::number(text, f),
     };
-    judge(text, name, words, bytes, used);
+    judge(rt, text, name, words, bytes, used);
     f.end
 }
 
 // A change that starts at `at`; the answer is where it ends, or `at` where there is none.
-fn change(text: &[u8], at: usize, words: &mut [u32], bytes: &mut [u8], used: Used) -> usize {
+fn change(
+    rt: &impl Print,
+    text: &[u8],
+    at: usize,
+    words: &mut [u32],
+    bytes: &mut [u8],
+    used: Used,
+) -> usize {
     let t = tokens::next(text, at);
     let name = tokens::next(text, t.end);
     if tokens::is(text, t, b"word") {
-        return with_word(text, name, words, bytes, used);
+        return with_word(rt, text, name, words, bytes, used);
     }
     if tokens::is(text, t, b"byte") {
-        return with_byte(text, name, words, bytes, used);
+        return with_byte(rt, text, name, words, bytes, used);
     }
     if tokens::is(text, t, b"used") {
-        return with_numbers(text, name, words, bytes);
+        return with_numbers(rt, text, name, words, bytes);
     }
     at
 }
 
 // All changes that stand from `at` on; the answer is where they end.
-fn changes(text: &[u8], at: usize, words: &mut [u32], bytes: &mut [u8], used: Used) -> usize {
+fn changes(
+    rt: &impl Print,
+    text: &[u8],
+    at: usize,
+    words: &mut [u32],
+    bytes: &mut [u8],
+    used: Used,
+) -> usize {
     let mut end = at;
     while end < text.len() {
-        let next = change(text, end, words, bytes, used);
+        let next = change(rt, text, end, words, bytes, used);
         if next <= end {
             return end;
         }
@@ -96,7 +124,7 @@ fn changes(text: &[u8], at: usize, words: &mut [u32], bytes: &mut [u8], used: Us
 }
 
 // The shelf that starts behind `at`, and its changes; the answer is where they end. Each slice has some room behind what is used.
-pub fn read_shelf(text: &[u8], at: usize) -> usize {
+pub fn read_shelf(rt: &impl Print, text: &[u8], at: usize) -> usize {
     let mut words = [0u32; 2048];
     let mut bytes = [0u8; 1024];
     let name = tokens::next(text, at);
@@ -110,6 +138,6 @@ pub fn read_shelf(text: &[u8], at: usize) -> usize {
     };
     let middle = tokens::read_words(text, b.end, &mut words, used.words as usize);
     let end = tokens::read_bytes(text, middle, &mut bytes, used.bytes as usize);
-    judge(text, name, &words, &bytes, used);
-    changes(text, end, &mut words, &mut bytes, used)
+    judge(rt, text, name, &words, &bytes, used);
+    changes(rt, text, end, &mut words, &mut bytes, used)
 }

@@ -58,42 +58,49 @@ fn same_words(a: &[u32], b: &[u32]) -> bool {
 }
 
 // Says so where words or bytes of the shelf are not as they were.
-fn say_changes(words: &[u32], bytes: &[u8], words_before: &[u32], bytes_before: &[u8]) {
+fn say_changes(
+    rt: &impl Print,
+    words: &[u32],
+    bytes: &[u8],
+    words_before: &[u32],
+    bytes_before: &[u8],
+) {
     if !same_words(words, tokens::front_words(words_before, words.len())) {
-        say::text(b" (words of the shelf have changed)");
+        say::text(rt, b" (words of the shelf have changed)");
     }
     if !texts::same_bytes(bytes, tokens::front_bytes(bytes_before, bytes.len())) {
-        say::text(b" (bytes of the shelf have changed)");
+        say::text(rt, b" (bytes of the shelf have changed)");
     }
 }
 
-fn say_accepted(used: Used, after: Used) {
-    say::text(b"  accepted as file ");
-    say::number(used.files);
-    say::text(b" (words used ");
-    say::number(after.words);
-    say::text(b", bytes used ");
-    say::number(after.bytes);
-    say::text(b")");
+fn say_accepted(rt: &impl Print, used: Used, after: Used) {
+    say::text(rt, b"  accepted as file ");
+    say::number(rt, used.files);
+    say::text(rt, b" (words used ");
+    say::number(rt, after.words);
+    say::text(rt, b", bytes used ");
+    say::number(rt, after.bytes);
+    say::text(rt, b")");
 }
 
-fn say_refused(number: u32, place: u32) {
-    say::text(b"  refused ");
-    say::number(number);
-    say::text(b" at ");
-    say::number(place);
+fn say_refused(rt: &impl Print, number: u32, place: u32) {
+    say::text(rt, b"  refused ");
+    say::number(rt, number);
+    say::text(rt, b" at ");
+    say::number(rt, place);
 }
 
 // Ends the line of an answer: a refusal's number and place, or number 0.
-fn end_line(expect: Expect, number: u32, place: u32) {
+fn end_line(rt: &impl Print, expect: Expect, number: u32, place: u32) {
     if !heads::is_met(expect, number, place) {
-        say::text(b" (the case says otherwise)");
+        say::text(rt, b" (the case says otherwise)");
     }
-    say::text(b"\n");
+    say::text(rt, b"\n");
 }
 
 // Links a file and says what was answered. The answer is the three numbers behind it; a refusal has none, and they stay.
 fn link_file(
+    rt: &impl Print,
     expect: Expect,
     s: State,
     image: &[u32],
@@ -110,16 +117,16 @@ fn link_file(
     let linked = link_lent(words, bytes, used, image, pool, lent);
     match linked {
         Linked::Accepted(after) => {
-            say_accepted(used, after);
-            end_line(expect, 0, 0);
-            records::say_record(words, image, pool, used, after, s.whole);
+            say_accepted(rt, used, after);
+            end_line(rt, expect, 0, 0);
+            records::say_record(rt, words, image, pool, used, after, s.whole);
             after
         }
         Linked::Refused(r, place) => {
             let number = r.number();
-            say_refused(number, place);
-            say_changes(words, bytes, &words_before, &bytes_before);
-            end_line(expect, number, place);
+            say_refused(rt, number, place);
+            say_changes(rt, words, bytes, &words_before, &bytes_before);
+            end_line(rt, expect, number, place);
             used
         }
     }
@@ -127,6 +134,7 @@ fn link_file(
 
 // The file behind the token `t`. An image or a pool that is too long is cut where it is one word or byte too long.
 pub fn read_file(
+    rt: &impl Print,
     text: &[u8],
     t: Token,
     mut s: State,
@@ -142,6 +150,7 @@ pub fn read_file(
     let end = tokens::read_bytes(text, middle, &mut pool, k);
     let expect = h.expect;
     let used = link_file(
+        rt,
         expect,
         s,
         tokens::front_words(&image, most(n, s.lent.image as usize)),

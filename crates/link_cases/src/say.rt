@@ -1,27 +1,27 @@
 // What a line is made of.
-use libc::STDOUT_FILENO;
 
-pub fn text(s: &[u8]) {
-    io::write_all(STDOUT_FILENO, s);
+// What cannot be written is passed over.
+pub fn text(rt: &impl Print, s: &[u8]) {
+    let _ = rt.write_all(s);
 }
 
 // A text in quotes.
-pub fn quoted(s: &[u8]) {
-    text(b"`");
-    text(s);
-    text(b"`");
+pub fn quoted(rt: &impl Print, s: &[u8]) {
+    text(rt, b"`");
+    text(rt, s);
+    text(rt, b"`");
 }
 
-pub fn number(n: u32) {
-    io::print_decimal(STDOUT_FILENO, n as u64);
+pub fn number(rt: &impl Print, n: u32) {
+    let _ = rt.print(n);
 }
 
 // Words, a space in front of each.
-pub fn words(row: &[u32]) {
+pub fn words(rt: &impl Print, row: &[u32]) {
     let mut i = 0;
     while i < row.len() {
-        text(b" ");
-        number(row[i]);
+        text(rt, b" ");
+        number(rt, row[i]);
         i += 1;
     }
 }

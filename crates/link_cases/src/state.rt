@@ -7,7 +7,7 @@ pub const SHELF_WORDS: usize = 1280;
 pub const SHELF_BYTES: usize = 512;
 
 // How many words and bytes of the shelf are lent at most, and how many words of an image at least.
-#[derive(Drop)]
+#[derive(Clone, Copy)]
 pub struct Lent {
     pub words: u32,
     pub bytes: u32,
@@ -15,7 +15,7 @@ pub struct Lent {
 }
 
 // Where the text goes on, what of the shelf is used, what is lent, and whether each record is written out.
-#[derive(Drop)]
+#[derive(Clone, Copy)]
 pub struct State {
     pub at: usize,
     pub used: Used,

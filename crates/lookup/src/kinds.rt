@@ -9,7 +9,7 @@ use names::bytes::same_bytes;
 use names::runtime_type_box::{DefaultRead, RuntimeType, parse_proto_default_value};
 use shelf_io::say;
 
-#[derive(Drop)]
+#[derive(Clone, Copy)]
 pub enum Kind {
     Message,
     Enum,
@@ -23,7 +23,7 @@ pub enum Kind {
 }
 
 // The number that a query ends in, 0 where it ends in none; or a word that says no number.
-#[derive(Drop)]
+#[derive(Clone, Copy)]
 pub enum Number {
     Word(u32),
     Unreadable,
@@ -156,33 +156,33 @@ pub fn name_of(
     lookup::message_full_name(words, bytes, used, file, index, out)
 }
 
-pub fn tell_kind(kind: Kind) -> usize {
+pub fn tell_kind(rt: &impl Print, kind: Kind) -> usize {
     match kind {
-        Kind::Message => say::text(b"message"),
-        Kind::Enum => say::text(b"enum"),
-        Kind::Field => say::text(b"field"),
-        Kind::FieldNumber => say::text(b"field-number"),
-        Kind::Value => say::text(b"value"),
-        Kind::ValueNumber => say::text(b"value-number"),
-        Kind::MessageName => say::text(b"message-name"),
-        Kind::EnumName => say::text(b"enum-name"),
+        Kind::Message => say::text(rt, b"message"),
+        Kind::Enum => say::text(rt, b"enum"),
+        Kind::Field => say::text(rt, b"field"),
+        Kind::FieldNumber => say::text(rt, b"field-number"),
+        Kind::Value => say::text(rt, b"value"),
+        Kind::ValueNumber => say::text(rt, b"value-number"),
+        Kind::MessageName => say::text(rt, b"message-name"),
+        Kind::EnumName => say::text(rt, b"enum-name"),
         Kind::Unknown => 0,
     }
 }
 
 // What the number counts that a query finds: flat numbers, but for a value, which has a place in its enum.
-fn tell_label(kind: Kind) -> usize {
+fn tell_label(rt: &impl Print, kind: Kind) -> usize {
     match kind {
-        Kind::Message => say::text(b"message "),
-        Kind::Enum => say::text(b"enum "),
-        Kind::Field | Kind::FieldNumber => say::text(b"field "),
-        Kind::Value | Kind::ValueNumber => say::text(b"place "),
+        Kind::Message => say::text(rt, b"message "),
+        Kind::Enum => say::text(rt, b"enum "),
+        Kind::Field | Kind::FieldNumber => say::text(rt, b"field "),
+        Kind::Value | Kind::ValueNumber => say::text(rt, b"place "),
         Kind::MessageName | Kind::EnumName | Kind::Unknown => 0,
     }
 }
 
 // What was found.
-pub fn tell_found(kind: Kind, k: u32) {
-    tell_label(kind);
-    say::number(k as u64);
+pub fn tell_found(rt: &impl Print, kind: Kind, k: u32) {
+    tell_label(rt, kind);
+    say::number(rt, k as u64);
 }

@@ -7,21 +7,22 @@ use image::rows::Found;
 use image::shelf::{Places, Used};
 use image::{shelf, well_formed};
 use link::lookup::Looked;
-use shelf_io::arguments::read_word;
+use shelf_io::arguments::{count_words, read_word};
 use shelf_io::say;
 use shelf_io::sentences::tell_file;
+use std::rt::Env;
 use tokens::front_bytes;
 
 // The query itself, as a line starts with it.
-fn tell_query(kind: Kind, first: &[u8], second: &[u8]) {
-    kinds::tell_kind(kind);
-    say::text(b" ");
-    say::text(first);
+fn tell_query(rt: &impl Print, kind: Kind, first: &[u8], second: &[u8]) {
+    kinds::tell_kind(rt, kind);
+    say::text(rt, b" ");
+    say::text(rt, first);
     if second.len() != 0 {
-        say::text(b" ");
-        say::text(second);
+        say::text(rt, b" ");
+        say::text(rt, second);
     }
-    say::text(b": ");
+    say::text(rt, b": ");
 }
 
 // What a file answers.
@@ -45,15 +46,16 @@ fn ask_file(
     }
 }
 
-fn tell_hit(words: &[u32], bytes: &[u8], p: Places, f: u32, kind: Kind, k: u32) {
-    tell_file(f, well_formed::file_name(words, bytes, p, f));
-    say::text(b", ");
-    kinds::tell_found(kind, k);
-    say::text(b"\n");
+fn tell_hit(rt: &impl Print, words: &[u32], bytes: &[u8], p: Places, f: u32, kind: Kind, k: u32) {
+    tell_file(rt, f, well_formed::file_name(words, bytes, p, f));
+    say::text(rt, b", ");
+    kinds::tell_found(rt, kind, k);
+    say::text(rt, b"\n");
 }
 
 // Asks every file.
 fn ask_files(
+    rt: &impl Print,
     words: &[u32],
     bytes: &[u8],
     p: Places,
@@ -68,31 +70,40 @@ fn ask_files(
     while f < files {
         let found = ask_file(words, bytes, p, f, kind, first, second, number);
         if let Found::At(k) = found {
-            tell_query(kind, first, second);
-            tell_hit(words, bytes, p, f, kind, k);
+            tell_query(rt, kind, first, second);
+            tell_hit(rt, words, bytes, p, f, kind, k);
             hit = true;
         }
         f += 1;
     }
     if !hit {
-        tell_query(kind, first, second);
-        say::text(b"nothing\n");
+        tell_query(rt, kind, first, second);
+        say::text(rt, b"nothing\n");
     }
 }
 
 // The full name of a message or an enum, by the numbers of its file and of itself.
-fn tell_name(words: &[u32], bytes: &[u8], used: Used, kind: Kind, file: u32, index: u32) {
+fn tell_name(
+    rt: &impl Print,
+    words: &[u32],
+    bytes: &[u8],
+    used: Used,
+    kind: Kind,
+    file: u32,
+    index: u32,
+) {
     let mut name = io::buffer();
     let looked = kinds::name_of(words, bytes, used, kind, file, index, &mut name);
     match looked {
-        Looked::Found(n) => say::text(front_bytes(&name, n as usize)),
-        Looked::Nothing | Looked::Refused(_) => say::text(b"nothing"),
+        Looked::Found(n) => say::text(rt, front_bytes(&name, n as usize)),
+        Looked::Nothing | Looked::Refused(_) => say::text(rt, b"nothing"),
     };
-    say::text(b"\n");
+    say::text(rt, b"\n");
 }
 
 // Asks for a full name.
 fn ask_name(
+    rt: &impl Print,
     words: &[u32],
     bytes: &[u8],
     used: Used,
@@ -101,17 +112,18 @@ fn ask_name(
     second: &[u8],
     index: u32,
 ) {
-    tell_query(kind, first, second);
+    tell_query(rt, kind, first, second);
     let file = kinds::index_of(first);
     match file {
-        Number::Word(f) => tell_name(words, bytes, used, kind, f, index),
+        Number::Word(f) => tell_name(rt, words, bytes, used, kind, f, index),
         Number::Unreadable => {
-            say::text(b"the word in front is not a number of 32 bits\n");
+            say::text(rt, b"the word in front is not a number of 32 bits\n");
         }
     }
 }
 
 fn ask(
+    rt: &impl Print,
     words: &[u32],
     bytes: &[u8],
     p: Places,
@@ -124,57 +136,67 @@ fn ask(
     match read {
         Number::Word(number) => {
             if kinds::is_naming(kind) {
-                ask_name(words, bytes, used, kind, first, second, number);
+                ask_name(rt, words, bytes, used, kind, first, second, number);
                 return;
             }
-            ask_files(words, bytes, p, used.files, kind, first, second, number)
+            ask_files(rt, words, bytes, p, used.files, kind, first, second, number)
         }
         Number::Unreadable => {
-            tell_query(kind, first, second);
-            say::text(b"the last word is not a number of 32 bits\n");
+            tell_query(rt, kind, first, second);
+            say::text(rt, b"the last word is not a number of 32 bits\n");
         }
     }
 }
 
 // Says that a word is no kind.
-fn tell_unknown(word: &[u8]) {
-    say::text(word);
+fn tell_unknown(rt: &impl Print, word: &[u8]) {
+    say::text(rt, word);
     say::text(
+        rt,
         b": not a kind (there are message, enum, field, field-number, value, value-number, message-name, enum-name)\n",
     );
 }
 
 // Reads word `i` where it is wanted.
-fn read_if(wanted: bool, i: usize, out: &mut [u8]) -> usize {
+fn read_if(rt: &impl Env, wanted: bool, i: usize, out: &mut [u8]) -> usize {
     if !wanted {
         return 0;
     }
-    read_word(i, out)
+    read_word(rt, i, out)
 }
 
 // Answers the query whose kind is word `at`, where `left` words stand from there on. It answers how many words it took, 0 where they are no
 // query.
-fn answer(at: usize, left: usize, words: &[u32], bytes: &[u8], p: Places, used: Used) -> usize
+fn answer(
+    rt: &(impl Env + Print),
+    at: usize,
+    left: usize,
+    words: &[u32],
+    bytes: &[u8],
+    p: Places,
+    used: Used,
+) -> usize
     requires { at + left < 2 ^ 64 }
     ensures { result ≤ left }
 {
     let mut first = io::buffer();
     let mut second = io::buffer();
-    let n = read_word(at, &mut first);
+    let n = read_word(rt, at, &mut first);
     let kind = kinds::kind_of(front_bytes(&first, n));
     let behind = kinds::words_behind(kind);
     if behind == 0 {
-        tell_unknown(front_bytes(&first, n));
+        tell_unknown(rt, front_bytes(&first, n));
         return 0;
     }
     if left <= behind {
-        kinds::tell_kind(kind);
-        say::text(b": a word is missing behind it\n");
+        kinds::tell_kind(rt, kind);
+        say::text(rt, b": a word is missing behind it\n");
         return 0;
     }
-    let n = read_word(at + 1, &mut first);
-    let k = read_if(behind == 2, at + 2, &mut second);
+    let n = read_word(rt, at + 1, &mut first);
+    let k = read_if(rt, behind == 2, at + 2, &mut second);
     ask(
+        rt,
         words,
         bytes,
         p,
@@ -187,11 +209,11 @@ fn answer(at: usize, left: usize, words: &[u32], bytes: &[u8], p: Places, used: 
 }
 
 // Answers the queries that stand from word 2 on.
-pub fn answer_all(words: &[u32], bytes: &[u8], p: Places, used: Used) {
-    let count = os::arg_count();
+pub fn answer_all(rt: &(impl Env + Print), words: &[u32], bytes: &[u8], p: Places, used: Used) {
+    let count = count_words(rt);
     let mut at = 2;
     while at < count {
-        let taken = answer(at, count - at, words, bytes, p, used);
+        let taken = answer(rt, at, count - at, words, bytes, p, used);
         if taken == 0 {
             return;
         }

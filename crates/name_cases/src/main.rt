@@ -1,13 +1,15 @@
 // Runs the rules of names and defaults on concrete texts, and prints what they answer, a line for each.
+#![tactic(auto)]
+
 mod defaults;
 mod json;
 mod packages;
 mod rules;
 mod say;
 
-fn main() {
-    rules::run();
-    packages::run();
-    json::run();
-    defaults::run();
+fn main(rt: HostRuntime) {
+    rules::run(&rt);
+    packages::run(&rt);
+    json::run(&rt);
+    defaults::run(&rt);
 }

@@ -3,79 +3,79 @@ use crate::say;
 use names::name;
 use names::name::Fronted;
 
-fn rest(full: &[u8], package: &[u8]) {
-    say::quoted(full);
-    say::text(b" beneath package ");
-    say::quoted(package);
+fn rest(rt: &impl Print, full: &[u8], package: &[u8]) {
+    say::quoted(rt, full);
+    say::text(rt, b" beneath package ");
+    say::quoted(rt, package);
     if !name::lies_beneath(full, package) {
-        say::text(b": no, rest ");
+        say::text(rt, b": no, rest ");
     } else {
-        say::text(b": yes, rest ");
+        say::text(rt, b": yes, rest ");
     }
-    say::quoted(name::rest_beneath(full, package));
-    say::text(b"\n");
+    say::quoted(rt, name::rest_beneath(full, package));
+    say::text(rt, b"\n");
 }
 
-fn beneath() {
-    rest(b".foo.bar", b"foo");
-    rest(b".foo.bar.Baz", b"foo.bar");
-    rest(b".foo.bar.Baz", b"foo");
-    rest(b".foo", b"");
-    rest(b".foo.bar", b"");
-    rest(b".foo.", b"foo");
-    rest(b".", b"");
+fn beneath(rt: &impl Print) {
+    rest(rt, b".foo.bar", b"foo");
+    rest(rt, b".foo.bar.Baz", b"foo.bar");
+    rest(rt, b".foo.bar.Baz", b"foo");
+    rest(rt, b".foo", b"");
+    rest(rt, b".foo.bar", b"");
+    rest(rt, b".foo.", b"foo");
+    rest(rt, b".", b"");
 }
 
-fn elsewhere() {
-    rest(b".foo", b"foo");
-    rest(b".foobar.x", b"foo");
-    rest(b".fo.x", b"foo");
-    rest(b".foo.bar", b"foo.bar");
-    rest(b"foo.bar", b"foo");
-    rest(b"foo", b"");
-    rest(b"", b"");
-    rest(b"", b"foo");
+fn elsewhere(rt: &impl Print) {
+    rest(rt, b".foo", b"foo");
+    rest(rt, b".foobar.x", b"foo");
+    rest(rt, b".fo.x", b"foo");
+    rest(rt, b".foo.bar", b"foo.bar");
+    rest(rt, b"foo.bar", b"foo");
+    rest(rt, b"foo", b"");
+    rest(rt, b"", b"");
+    rest(rt, b"", b"foo");
 }
 
 // Joins two names in a buffer of twelve bytes, and shows all of it.
-fn join(first: &[u8], second: &[u8]) {
+fn join(rt: &impl Print, first: &[u8], second: &[u8]) {
     let mut out = [b'-'; 12];
     name::put_front(&mut out, first);
-    say::text(b"join ");
-    say::quoted(first);
-    say::text(b" and ");
-    say::quoted(second);
+    say::text(rt, b"join ");
+    say::quoted(rt, first);
+    say::text(rt, b" and ");
+    say::quoted(rt, second);
     let joined = name::concat_paths(&mut out, first.len(), second);
     match joined {
         Fronted::Written(n) => {
-            say::text(b": length ");
-            say::number(n as u64);
+            say::text(rt, b": length ");
+            say::number(rt, n as u64);
         }
-        Fronted::TooShort => say::text(b": no room"),
+        Fronted::TooShort => say::text(rt, b": no room"),
     }
-    say::text(b", buffer ");
-    say::quoted(&out);
-    say::text(b"\n");
+    say::text(rt, b", buffer ");
+    say::quoted(rt, &out);
+    say::text(rt, b"\n");
 }
 
-fn joined() {
-    join(b"foo", b"Bar");
-    join(b"", b"Bar");
-    join(b"foo", b"");
-    join(b"", b"");
+fn joined(rt: &impl Print) {
+    join(rt, b"foo", b"Bar");
+    join(rt, b"", b"Bar");
+    join(rt, b"foo", b"");
+    join(rt, b"", b"");
 }
 
-fn joined_at_the_end() {
-    join(b"foo.bar", b"Baz1");
-    join(b"foo.bar", b"Baz12");
-    join(b"", b"thirteenbytes");
-    join(b"twelve bytes", b"x");
-    join(b"twelve bytes", b"");
+fn joined_at_the_end(rt: &impl Print) {
+    join(rt, b"foo.bar", b"Baz1");
+    join(rt, b"foo.bar", b"Baz12");
+    join(rt, b"", b"thirteenbytes");
+    join(rt, b"twelve bytes", b"x");
+    join(rt, b"twelve bytes", b"");
 }
 
-pub fn run() {
-    beneath();
-    elsewhere();
-    joined();
-    joined_at_the_end();
+pub fn run(rt: &impl Print) {
+    beneath(rt);
+    elsewhere(rt);
+    joined(rt);
+    joined_at_the_end(rt);
 }

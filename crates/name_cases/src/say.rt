@@ -1,25 +1,25 @@
 // What a line is made of.
-use libc::STDOUT_FILENO;
 
-pub fn text(s: &[u8]) {
-    io::write_all(STDOUT_FILENO, s);
+// What cannot be written is passed over.
+pub fn text(rt: &impl Print, s: &[u8]) {
+    let _ = rt.write_all(s);
 }
 
 // A text in quotes.
-pub fn quoted(s: &[u8]) {
-    text(b"`");
-    text(s);
-    text(b"`");
+pub fn quoted(rt: &impl Print, s: &[u8]) {
+    text(rt, b"`");
+    text(rt, s);
+    text(rt, b"`");
 }
 
-pub fn number(n: u64) {
-    io::print_decimal(STDOUT_FILENO, n);
+pub fn number(rt: &impl Print, n: u64) {
+    let _ = rt.print(n);
 }
 
-pub fn answer(yes: bool) {
+pub fn answer(rt: &impl Print, yes: bool) {
     if yes {
-        text(b": yes\n");
+        text(rt, b": yes\n");
     } else {
-        text(b": no\n");
+        text(rt, b": no\n");
     }
 }

@@ -21,12 +21,12 @@ parts e =
     }
 
 -- the number and the value of an answer are those of what it is
-pub told : {n v : ℕ} {l m : Looked} → n ≡ looked_number l → v ≡ looked_value l → l ≡ m → (n ≡ looked_number m) × (v ≡ looked_value m)
-told number value e = (number ∙ ap looked_number e, value ∙ ap looked_value e)
+pub told : {n v : ℕ} {l m : Looked} → n ≡ looked_number l → v ≡ looked_value l → l ≡ m → record { value : n ≡ looked_number m; found_after : v ≡ looked_value m }
+told number value e = record { value = number ∙ ap looked_number e; found_after = value ∙ ap looked_value e }
 
 -- the same where a name is written, too
 pub told_name : {n v : ℕ} {l : Looked} {out : List ℕ} {m : Naming} → n ≡ looked_number l → v ≡ looked_value l → record { answer = l; out = out } ≡ m
-    → (n ≡ looked_number m.answer) × ((v ≡ looked_value m.answer) × (out ≡ m.out))
+    → record { value : n ≡ looked_number m.answer; found_after : v ≡ looked_value m.answer; out_after : out ≡ m.out }
 told_name number value e =
     let answered = ap (λ (x : Naming). x.answer) e in
-    (number ∙ ap looked_number answered, (value ∙ ap looked_value answered, ap (λ (x : Naming). x.out) e))
+    record { value = number ∙ ap looked_number answered; found_after = value ∙ ap looked_value answered; out_after = ap (λ (x : Naming). x.out) e }

@@ -5,7 +5,7 @@ use tokens::Token;
 // What the crate made of a file:
 // it accepts, with so many link words; it fails, with the error that stands for a refusal; it panics, and whether it then sought an enum's
 // default past a message or an enum of another name; or it was not asked, for a reason that is refused here with that number or a lower one.
-#[derive(Drop)]
+#[derive(Clone, Copy)]
 pub enum Theirs {
     Accepted(u32),
     Failed(u32),
@@ -15,7 +15,7 @@ pub enum Theirs {
 }
 
 // An answer, and where it ends; where its link words start, if it has any.
-#[derive(Drop)]
+#[derive(Clone, Copy)]
 pub struct Answer {
     pub theirs: Theirs,
     pub end: usize,

@@ -4,19 +4,19 @@ use crate::{files, say, state, tally};
 use tokens::Token;
 
 // The cases cannot be read further: what is left of them stays.
-fn stop(cases: &[u8], t: Token, s: State, why: &[u8]) -> State {
-    say::text(b"stopped at `");
-    say::text(tokens::bytes_of(cases, t));
-    say::text(b"` (byte ");
-    say::number(t.start as u64);
-    say::text(b" of the cases): ");
-    say::text(why);
-    say::text(b"\n");
+fn stop(rt: &impl Print, cases: &[u8], t: Token, s: State, why: &[u8]) -> State {
+    say::text(rt, b"stopped at `");
+    say::text(rt, tokens::bytes_of(cases, t));
+    say::text(rt, b"` (byte ");
+    say::number(rt, t.start as u64);
+    say::text(rt, b" of the cases): ");
+    say::text(rt, why);
+    say::text(rt, b"\n");
     s
 }
 
 // A case starts, in both lists. Words and bytes of the case before stay, since what is not used is no part of a shelf.
-fn begin(cases: &[u8], answers: &[u8], t: Token, s: State) -> State {
+fn begin(rt: &impl Print, cases: &[u8], answers: &[u8], t: Token, s: State) -> State {
     let name = tokens::next(cases, t.end);
     let count = tokens::next(cases, name.end);
     let files = tokens::number(cases, count);
@@ -24,13 +24,19 @@ fn begin(cases: &[u8], answers: &[u8], t: Token, s: State) -> State {
     let same_name = tokens::next(answers, u.end);
     let same_count = tokens::next(answers, same_name.end);
     if !tokens::is(answers, u, b"case") {
-        return stop(cases, name, s, b"the answers have no case here");
+        return stop(rt, cases, name, s, b"the answers have no case here");
     }
     if !tokens::is(answers, same_name, tokens::bytes_of(cases, name)) {
-        return stop(cases, name, s, b"the answers have another case here");
+        return stop(rt, cases, name, s, b"the answers have another case here");
     }
     if tokens::number(answers, same_count) != files {
-        return stop(cases, name, s, b"the answers have other files of this case");
+        return stop(
+            rt,
+            cases,
+            name,
+            s,
+            b"the answers have other files of this case",
+        );
     }
     let mut counted = s.tally;
     counted.cases = tally::more(counted.cases);
@@ -38,28 +44,41 @@ fn begin(cases: &[u8], answers: &[u8], t: Token, s: State) -> State {
 }
 
 // What stands next: the start of a case where all files of the last were read, or else a file of it; or nothing.
-fn step(cases: &[u8], answers: &[u8], s: State, words: &mut [u32], bytes: &mut [u8]) -> State {
+fn step(
+    rt: &impl Print,
+    cases: &[u8],
+    answers: &[u8],
+    s: State,
+    words: &mut [u32],
+    bytes: &mut [u8],
+) -> State {
     let t = tokens::next(cases, s.at);
     if t.start == t.end {
         return s;
     }
     if s.file < s.files {
         if tokens::is(cases, t, b"file") {
-            return files::read_file(cases, answers, t, s, words, bytes);
+            return files::read_file(rt, cases, answers, t, s, words, bytes);
         }
-        return stop(cases, t, s, b"a file is missing");
+        return stop(rt, cases, t, s, b"a file is missing");
     }
     if tokens::is(cases, t, b"case") {
-        return begin(cases, answers, t, s);
+        return begin(rt, cases, answers, t, s);
     }
-    stop(cases, t, s, b"here no case starts")
+    stop(rt, cases, t, s, b"here no case starts")
 }
 
 // All cases.
-fn run(cases: &[u8], answers: &[u8], words: &mut [u32], bytes: &mut [u8]) -> State {
+fn run(
+    rt: &impl Print,
+    cases: &[u8],
+    answers: &[u8],
+    words: &mut [u32],
+    bytes: &mut [u8],
+) -> State {
     let mut s = state::start();
     while s.at < cases.len() {
-        let next = step(cases, answers, s, words, bytes);
+        let next = step(rt, cases, answers, s, words, bytes);
         if next.at <= s.at {
             return s;
         }
@@ -83,13 +102,13 @@ fn is_whole(cases: &[u8], answers: &[u8], s: State) -> bool {
 }
 
 // Replays all cases, and says at the end what was counted, and whether anything was left.
-pub fn replay(cases: &[u8], answers: &[u8], words: &mut [u32], bytes: &mut [u8]) {
-    let s = run(cases, answers, words, bytes);
+pub fn replay(rt: &impl Print, cases: &[u8], answers: &[u8], words: &mut [u32], bytes: &mut [u8]) {
+    let s = run(rt, cases, answers, words, bytes);
     let counted = s.tally;
-    tally::say_tally(counted);
+    tally::say_tally(rt, counted);
     if is_whole(cases, answers, s) {
-        say::text(b"both lists were read to their ends\n");
+        say::text(rt, b"both lists were read to their ends\n");
     } else {
-        say::text(b"not all cases and answers were read\n");
+        say::text(rt, b"not all cases and answers were read\n");
     }
 }

@@ -9,16 +9,16 @@ use link::link::Linked;
 use tokens::heads::Expect;
 use tokens::{Token, heads};
 
-fn say_ours(ours: Ours) {
+fn say_ours(rt: &impl Print, ours: Ours) {
     if ours.number == 0 {
-        say::text(b", ours is accepted\n");
+        say::text(rt, b", ours is accepted\n");
         return;
     }
-    say::text(b", ours is refused ");
-    say::number(ours.number as u64);
-    say::text(b" at ");
-    say::number(ours.place as u64);
-    say::text(b"\n");
+    say::text(rt, b", ours is refused ");
+    say::number(rt, ours.number as u64);
+    say::text(rt, b" at ");
+    say::number(rt, ours.place as u64);
+    say::text(rt, b"\n");
 }
 
 // The file is done: the answers go on at `end`.
@@ -31,6 +31,7 @@ fn done(mut s: State, end: usize, counted: Tally, judged: Judged) -> State {
 
 // Both accept: the words decide.
 fn with_words(
+    rt: &impl Print,
     cases: &[u8],
     answers: &[u8],
     a: Answer,
@@ -40,6 +41,7 @@ fn with_words(
 ) -> State {
     let theirs = a.theirs;
     let c = words::compare(
+        rt,
         cases,
         answers,
         a.end,
@@ -56,6 +58,7 @@ fn with_words(
 
 // No words are compared; those that the crate has are passed over.
 fn without_words(
+    rt: &impl Print,
     cases: &[u8],
     answers: &[u8],
     a: Answer,
@@ -64,9 +67,9 @@ fn without_words(
     ours: Ours,
 ) -> State {
     if judge::is_difference(judged) {
-        say::file(cases, s);
-        judge::say_difference(judged);
-        say_ours(ours);
+        say::file(rt, cases, s);
+        judge::say_difference(rt, judged);
+        say_ours(rt, ours);
     }
     let theirs = a.theirs;
     let t = s.tally;
@@ -80,6 +83,7 @@ fn without_words(
 
 // Holds what is answered here against the crate's next answer.
 fn judge_file(
+    rt: &impl Print,
     cases: &[u8],
     answers: &[u8],
     expect: Expect,
@@ -94,8 +98,8 @@ fn judge_file(
     let judged = judge::judge(expect, theirs, ours, shelves);
     s.shelves = judge::shelves_after(expect, theirs, ours.number, shelves);
     match judged {
-        Judged::Words => with_words(cases, answers, a, s, image, links),
-        _ => without_words(cases, answers, a, s, judged, ours),
+        Judged::Words => with_words(rt, cases, answers, a, s, image, links),
+        _ => without_words(rt, cases, answers, a, s, judged, ours),
     }
 }
 
@@ -107,6 +111,7 @@ fn links_of(shelf: &[u32], size: usize, used: Used, after: Used) -> &[u32] {
 
 // Links a file. One that is refused leaves the three numbers as they were.
 fn link_file(
+    rt: &impl Print,
     cases: &[u8],
     answers: &[u8],
     expect: Expect,
@@ -125,7 +130,7 @@ fn link_file(
                 place: 0,
             };
             let links = links_of(words, image.len(), used, after);
-            let mut next = judge_file(cases, answers, expect, s, image, links, ours);
+            let mut next = judge_file(rt, cases, answers, expect, s, image, links, ours);
             next.used = after;
             next
         }
@@ -133,6 +138,7 @@ fn link_file(
             let number = r.number();
             let none = tokens::front_words(image, 0);
             judge_file(
+                rt,
                 cases,
                 answers,
                 expect,
@@ -147,6 +153,7 @@ fn link_file(
 
 // The file behind the token `t`. An image or a pool that is too long is cut where it is one word or byte too long.
 pub fn read_file(
+    rt: &impl Print,
     cases: &[u8],
     answers: &[u8],
     t: Token,
@@ -163,6 +170,7 @@ pub fn read_file(
     let end = tokens::read_bytes(cases, middle, &mut pool, k);
     let expect = h.expect;
     let mut next = link_file(
+        rt,
         cases,
         answers,
         expect,

@@ -6,7 +6,7 @@ use tokens::heads;
 use tokens::heads::Expect;
 
 // What is answered here: a refusal's number and place, and number 0 where the file is accepted.
-#[derive(Drop)]
+#[derive(Clone, Copy)]
 pub struct Ours {
     pub number: u32,
     pub place: u32,
@@ -15,7 +15,7 @@ pub struct Ours {
 // No difference: both accept, and the words decide; refused as expected, and where the crate fails with an error for that number;
 // refused with the number of the crate's error, with nothing expected; or outside the domain, where no more is asked. All others are
 // differences.
-#[derive(Drop)]
+#[derive(Clone, Copy)]
 pub enum Judged {
     Words,
     Expected,
@@ -179,14 +179,14 @@ pub fn is_difference(judged: Judged) -> bool {
     }
 }
 
-pub fn say_difference(judged: Judged) {
+pub fn say_difference(rt: &impl Print, judged: Judged) {
     match judged {
-        Judged::Unmet => say::text(b"the case expects another answer"),
-        Judged::Layout => say::text(b"3 is for a broken layout and nothing else"),
-        Judged::CrateAccepts => say::text(b"the crate accepts"),
-        Judged::CrateFails => say::text(b"the crate fails with an error for another number"),
-        Judged::CratePanics => say::text(b"the crate panics"),
-        Judged::NotAsked => say::text(b"the crate was not asked since it is to be refused"),
-        _ => say::text(b"the crate's answer is none that is known"),
+        Judged::Unmet => say::text(rt, b"the case expects another answer"),
+        Judged::Layout => say::text(rt, b"3 is for a broken layout and nothing else"),
+        Judged::CrateAccepts => say::text(rt, b"the crate accepts"),
+        Judged::CrateFails => say::text(rt, b"the crate fails with an error for another number"),
+        Judged::CratePanics => say::text(rt, b"the crate panics"),
+        Judged::NotAsked => say::text(rt, b"the crate was not asked since it is to be refused"),
+        _ => say::text(rt, b"the crate's answer is none that is known"),
     }
 }

@@ -5,6 +5,8 @@
 // a file that only one of the two accepts moves the numbers of later files, so that they would show as different words.
 //
 // Each difference is a line. The last lines say how many cases and files there were, and what became of each file.
+#![tactic(auto)]
+
 mod answers;
 mod cases;
 mod files;
@@ -14,33 +16,50 @@ mod state;
 mod tally;
 mod words;
 
+use std::fs;
+use std::io::Read;
+use std::rt::Files;
+
 // Room for each list, and a byte more.
 const CASES_ROOM: usize = 600001;
 
 const ANSWERS_ROOM: usize = 200001;
 
-// Reads a list, and answers how many bytes it has; 0 where there is none.
-fn read_list(path: &[u8], list: &mut [u8]) -> usize {
-    let file = os::open_read(path);
-    if file < 0 {
-        return 0;
+// Reads until `out` is full, the input ends or a read fails, and answers how many bytes were read.
+fn read_full(input: &mut impl Read, out: &mut [u8]) -> usize {
+    let mut n = 0;
+    while n < out.len() {
+        let Ok(more) = input.read(&mut out[n..]) else {
+            return n;
+        };
+        if more == 0 {
+            return n;
+        }
+        n += more;
     }
-    let n = io::read_full(file, list);
-    libc::close(file);
     n
 }
 
-fn main() {
+// Reads a list, and answers how many bytes it has; 0 where there is none.
+fn read_list(rt: &impl Files, path: &str, list: &mut [u8]) -> usize {
+    let Ok(mut file) = fs::open(rt, path) else {
+        return 0;
+    };
+    read_full(&mut file, list)
+}
+
+fn main(rt: HostRuntime) {
     let mut cases = [0u8; CASES_ROOM];
     let mut answers = [0u8; ANSWERS_ROOM];
-    let n = read_list(b"cases.txt", &mut cases);
-    let k = read_list(b"answers.txt", &mut answers);
+    let n = read_list(&rt, "cases.txt", &mut cases);
+    let k = read_list(&rt, "answers.txt", &mut answers);
     if n == 0 || k == 0 {
-        say::text(b"cases.txt or answers.txt is missing or empty\n");
+        say::text(&rt, b"cases.txt or answers.txt is missing or empty\n");
         return;
     }
     if n == CASES_ROOM || k == ANSWERS_ROOM {
         say::text(
+            &rt,
             b"a list is too long: at most 600,000 bytes of cases and 200,000 of answers are read\n",
         );
         return;
@@ -48,6 +67,7 @@ fn main() {
     let mut words = [0u32; state::SHELF_WORDS];
     let mut bytes = [0u8; state::SHELF_BYTES];
     cases::replay(
+        &rt,
         tokens::front_bytes(&cases, n),
         tokens::front_bytes(&answers, k),
         &mut words,

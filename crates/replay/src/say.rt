@@ -1,26 +1,26 @@
 // What a line is made of.
 use crate::state::State;
-use libc::STDOUT_FILENO;
 
-pub fn text(s: &[u8]) {
-    io::write_all(STDOUT_FILENO, s);
+// What cannot be written is passed over.
+pub fn text(rt: &impl Print, s: &[u8]) {
+    let _ = rt.write_all(s);
 }
 
-pub fn number(n: u64) {
-    io::print_decimal(STDOUT_FILENO, n);
+pub fn number(rt: &impl Print, n: u64) {
+    let _ = rt.print(n);
 }
 
 // A number with a text behind it.
-pub fn count(n: u32, what: &[u8]) {
-    number(n as u64);
-    text(what);
+pub fn count(rt: &impl Print, n: u32, what: &[u8]) {
+    number(rt, n as u64);
+    text(rt, what);
 }
 
 // Which file of which case a line is about.
-pub fn file(cases: &[u8], s: State) {
-    text(b"case ");
-    text(tokens::bytes_of(cases, s.name));
-    text(b", file ");
-    number(s.file as u64);
-    text(b": ");
+pub fn file(rt: &impl Print, cases: &[u8], s: State) {
+    text(rt, b"case ");
+    text(rt, tokens::bytes_of(cases, s.name));
+    text(rt, b", file ");
+    number(rt, s.file as u64);
+    text(rt, b": ");
 }

@@ -10,7 +10,7 @@ pub const SHELF_WORDS: usize = 8192;
 pub const SHELF_BYTES: usize = 4096;
 
 // How the two shelves of a case differ: whether a file stands only here, and whether one stands only on the crate's.
-#[derive(Drop)]
+#[derive(Clone, Copy)]
 pub struct Shelves {
     pub more_here: bool,
     pub more_there: bool,
@@ -18,7 +18,7 @@ pub struct Shelves {
 
 // Where the cases and the answers go on; the name of the case; how many files of it were read, of how many; the shelf; and what was
 // counted.
-#[derive(Drop)]
+#[derive(Clone, Copy)]
 pub struct State {
     pub at: usize,
     pub answer: usize,

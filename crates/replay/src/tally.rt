@@ -4,7 +4,7 @@ use crate::say;
 
 // Every file is counted in one of `equal`, `expected`, `failed`, `outside`, `alone` and `differ`. `errors` counts those of `expected` on
 // which the crate fails with an error that stands for the same number.
-#[derive(Drop)]
+#[derive(Clone, Copy)]
 pub struct Tally {
     pub cases: u32,
     pub files: u32,
@@ -65,28 +65,32 @@ pub fn with_file(mut t: Tally, judged: Judged) -> Tally {
     t
 }
 
-pub fn say_tally(t: Tally) {
-    say::count(t.cases, b" cases, ");
-    say::count(t.files, b" files:\n  ");
-    say::count(t.equal, b" accepted, as by the crate, with ");
-    say::count(t.words, b" words equal (");
-    say::count(t.undecided, b" more the crate does not decide)\n  ");
-    say::count(t.expected, b" refused as the case expects (on ");
+pub fn say_tally(rt: &impl Print, t: Tally) {
+    say::count(rt, t.cases, b" cases, ");
+    say::count(rt, t.files, b" files:\n  ");
+    say::count(rt, t.equal, b" accepted, as by the crate, with ");
+    say::count(rt, t.words, b" words equal (");
+    say::count(rt, t.undecided, b" more the crate does not decide)\n  ");
+    say::count(rt, t.expected, b" refused as the case expects (on ");
     say::count(
+        rt,
         t.errors,
         b" of them the crate fails with an error for that number)\n  ",
     );
     say::count(
+        rt,
         t.failed,
         b" refused with the number that the crate's error stands for\n  ",
     );
     say::count(
+        rt,
         t.outside,
         b" refused outside the domain, as the rules allow\n  ",
     );
     say::count(
+        rt,
         t.alone,
         b" accepted here alone, where the crate panics over an enum's default or lacks such a file\n  ",
     );
-    say::count(t.differ, b" different\n");
+    say::count(rt, t.differ, b" different\n");
 }

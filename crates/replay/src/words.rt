@@ -9,7 +9,7 @@ use image::rows::Kind;
 use tokens::Token;
 
 // Where the crate's words go on, and how many were equal, not decided and different.
-#[derive(Drop)]
+#[derive(Clone, Copy)]
 pub struct Compared {
     pub end: usize,
     pub equal: u32,
@@ -18,13 +18,13 @@ pub struct Compared {
 }
 
 // A row and a word of it, by the word's place among the rows of its kind.
-fn say_row(kind: &[u8], at: u64, width: u64)
+fn say_row(rt: &impl Print, kind: &[u8], at: u64, width: u64)
     requires { 0 < width }
 {
-    say::text(kind);
-    say::number(at / width);
-    say::text(b" word ");
-    say::number(at % width);
+    say::text(rt, kind);
+    say::number(rt, at / width);
+    say::text(rt, b" word ");
+    say::number(rt, at % width);
 }
 
 // How many words the rows of a kind have.
@@ -39,35 +39,43 @@ fn row_words(image: &[u32], kind: Kind) -> u64 {
 }
 
 // A place among the link words, by row and word. Behind the rows stand 8 words.
-fn say_place(image: &[u32], at: u64) {
+fn say_place(rt: &impl Print, image: &[u32], at: u64) {
     let messages = row_words(image, Kind::Message);
     if at < messages {
-        return say_row(b"message row ", at, 10);
+        return say_row(rt, b"message row ", at, 10);
     }
     let enums = row_words(image, Kind::Enum);
     if at - messages < enums {
-        return say_row(b"enum row ", at - messages, 2);
+        return say_row(rt, b"enum row ", at - messages, 2);
     }
     let oneofs = row_words(image, Kind::Oneof);
     if at - messages - enums < oneofs {
-        return say_row(b"oneof row ", at - messages - enums, 4);
+        return say_row(rt, b"oneof row ", at - messages - enums, 4);
     }
     let fields = row_words(image, Kind::Field);
     if at - messages - enums - oneofs < fields {
-        return say_row(b"field row ", at - messages - enums - oneofs, 16);
+        return say_row(rt, b"field row ", at - messages - enums - oneofs, 16);
     }
-    say::text(b"last words, word ");
-    say::number(at - messages - enums - oneofs - fields);
+    say::text(rt, b"last words, word ");
+    say::number(rt, at - messages - enums - oneofs - fields);
 }
 
-fn say_word(cases: &[u8], s: State, image: &[u32], at: usize, wanted: u32, given: u32) {
-    say::file(cases, s);
-    say_place(image, at as u64);
-    say::text(b": the crate gives ");
-    say::number(wanted as u64);
-    say::text(b", ours is ");
-    say::number(given as u64);
-    say::text(b"\n");
+fn say_word(
+    rt: &impl Print,
+    cases: &[u8],
+    s: State,
+    image: &[u32],
+    at: usize,
+    wanted: u32,
+    given: u32,
+) {
+    say::file(rt, cases, s);
+    say_place(rt, image, at as u64);
+    say::text(rt, b": the crate gives ");
+    say::number(rt, wanted as u64);
+    say::text(rt, b", ours is ");
+    say::number(rt, given as u64);
+    say::text(rt, b"\n");
 }
 
 // Counts the token `t`, a word of the crate's, where ours is `given`.
@@ -87,6 +95,7 @@ fn with_word(answers: &[u8], t: Token, given: u32, mut c: Compared) -> Compared 
 
 // Holds the crate's words, from `at` on, against as many link words.
 fn compare_each(
+    rt: &impl Print,
     cases: &[u8],
     answers: &[u8],
     at: usize,
@@ -105,7 +114,7 @@ fn compare_each(
         let t = tokens::next(answers, c.end);
         let next = with_word(answers, t, links[i], c);
         if c.different < next.different {
-            say_word(cases, s, image, i, tokens::number(answers, t), links[i]);
+            say_word(rt, cases, s, image, i, tokens::number(answers, t), links[i]);
         }
         c = next;
         i += 1;
@@ -115,6 +124,7 @@ fn compare_each(
 
 // Holds the crate's n words, from `at` on, against the link words. Where they are not as many, all of them together are one difference.
 pub fn compare(
+    rt: &impl Print,
     cases: &[u8],
     answers: &[u8],
     at: usize,
@@ -124,14 +134,14 @@ pub fn compare(
     links: &[u32],
 ) -> Compared {
     if n as usize == links.len() {
-        return compare_each(cases, answers, at, s, image, links);
+        return compare_each(rt, cases, answers, at, s, image, links);
     }
-    say::file(cases, s);
-    say::text(b"the crate gives ");
-    say::number(n as u64);
-    say::text(b" words, ours are ");
-    say::number(links.len() as u64);
-    say::text(b"\n");
+    say::file(rt, cases, s);
+    say::text(rt, b"the crate gives ");
+    say::number(rt, n as u64);
+    say::text(rt, b" words, ours are ");
+    say::number(rt, links.len() as u64);
+    say::text(rt, b"\n");
     Compared {
         end: answers::end_of_words(answers, at, n),
         equal: 0,

@@ -2,6 +2,8 @@
 //
 // No contract can say what the system reads and writes. Each says what is left: how much of a lent slice was filled, what it holds where that
 // is known, and how long a text is that was handed over.
+#![tactic(auto)]
+
 pub mod arguments;
 pub mod counts;
 pub mod files;

@@ -4,45 +4,44 @@ ghost use Rattle.std.specs.Prelude.{◌≡◌, ◌-◌, ◌≤◌, min, max, len
 ghost use Rattle.io.specs.Digits.{IsDigitCount};
 ghost use Rattle.shelf_io.specs.Counts.{SignedLength};
 
-use libc::STDOUT_FILENO;
 use tokens::front_bytes;
 
-// A text as it is.
-pub fn text(s: &[u8]) -> usize
+// A text as it is. What cannot be written is passed over.
+pub fn text(rt: &impl Print, s: &[u8]) -> usize
     ensures { result ≡ length s.now }
 {
-    io::write_all(STDOUT_FILENO, s);
+    let _ = rt.write_all(s);
     s.len()
 }
 
 // A number, in decimal.
-pub fn number(n: u64) -> usize
+pub fn number(rt: &impl Print, n: u64) -> usize
     ensures digit_count { IsDigitCount 10 1 n result }
     ensures upper_bound { result ≤ 20 }
 {
     let mut digits = [0u8; 20];
     let k = io::decimal(n, &mut digits);
-    text(&digits[..k])
+    text(rt, &digits[..k])
 }
 
 // A word as a signed number, in decimal.
-pub fn signed(word: u32) -> usize
+pub fn signed(rt: &impl Print, word: u32) -> usize
     ensures { SignedLength word result }
 {
     if word < 2147483648 {
-        return number(word as u64);
+        return number(rt, word as u64);
     }
-    let sign = text(b"-");
-    sign + number(4294967296 - word as u64)
+    let sign = text(rt, b"-");
+    sign + number(rt, 4294967296 - word as u64)
 }
 
 // Spaces from column `at` up to `column`: one at least, 64 at most.
-pub fn spaces(at: usize, column: usize) -> usize
+pub fn spaces(rt: &impl Print, at: usize, column: usize) -> usize
     ensures { result ≡ min (max 1 (column - at)) 64 }
 {
     let blank = [32u8; 64];
     if column <= at {
-        return text(b" ");
+        return text(rt, b" ");
     }
-    text(front_bytes(&blank, column - at))
+    text(rt, front_bytes(&blank, column - at))
 }

@@ -9,160 +9,172 @@ use image::verdict::Refusal;
 use tokens::front_bytes;
 
 // Why a file was not read or stored.
-fn tell_cause(c: Cause) -> usize
+fn tell_cause(rt: &impl Print, c: Cause) -> usize
     ensures { result ≤ 80 }
 {
     match c {
-        Cause::Missing => say::text(b"no such file or folder"),
-        Cause::Forbidden => say::text(b"no permission"),
-        Cause::Folder => say::text(b"it is a folder"),
-        Cause::NoFolder => say::text(b"a part of its path is no folder"),
-        Cause::LongPath => say::text(b"its path is too long"),
-        Cause::Taken => say::text(b"a file of its name with .new behind it is in the way"),
-        Cause::Full => say::text(b"no space is left"),
-        Cause::Other(number) => other_cause(number),
+        Cause::Missing => say::text(rt, b"no such file or folder"),
+        Cause::Forbidden => say::text(rt, b"no permission"),
+        Cause::Folder => say::text(rt, b"it is a folder"),
+        Cause::NoFolder => say::text(rt, b"a part of its path is no folder"),
+        Cause::LongPath => say::text(rt, b"its path is too long"),
+        Cause::NoText => say::text(rt, b"its path is not UTF-8"),
+        Cause::Taken => say::text(rt, b"a file of its name with .new behind it is in the way"),
+        Cause::Full => say::text(rt, b"no space is left"),
+        Cause::Other(number) => other_cause(rt, number),
     }
 }
 
-fn other_cause(number: u32) -> usize
+fn other_cause(rt: &impl Print, number: u32) -> usize
     ensures { result ≤ 80 }
 {
-    let n = say::text(b"the system's error ");
-    n + say::number(number as u64)
+    let n = say::text(rt, b"the system's error ");
+    n + say::number(rt, number as u64)
 }
 
 // Why a file is not of its kind.
-pub fn tell_fault(f: Fault) -> usize
+pub fn tell_fault(rt: &impl Print, f: Fault) -> usize
     ensures { result ≤ 80 }
 {
     match f {
-        Fault::Foreign => say::text(b"it does not begin like one"),
-        Fault::OtherVersion => say::text(b"it has another version"),
-        Fault::Damaged => say::text(b"it is damaged: shorter or longer than it says"),
-        Fault::TooLong => say::text(b"it is longer than one may be"),
+        Fault::Foreign => say::text(rt, b"it does not begin like one"),
+        Fault::OtherVersion => say::text(rt, b"it has another version"),
+        Fault::Damaged => say::text(rt, b"it is damaged: shorter or longer than it says"),
+        Fault::TooLong => say::text(rt, b"it is longer than one may be"),
     }
 }
 
 // What a refusal says.
-fn reason(r: Refusal) -> usize
+fn reason(rt: &impl Print, r: Refusal) -> usize
     ensures { result ≤ 100 }
 {
     match r {
-        Refusal::TooLong => say::text(b"the shelf or the image is longer than its limit"),
-        Refusal::ShelfBroken => say::text(b"the shelf is not well formed"),
-        Refusal::LayoutBroken => say::text(b"the image breaks a layout rule"),
+        Refusal::TooLong => say::text(rt, b"the shelf or the image is longer than its limit"),
+        Refusal::ShelfBroken => say::text(rt, b"the shelf is not well formed"),
+        Refusal::LayoutBroken => say::text(rt, b"the image breaks a layout rule"),
         Refusal::LimitPassed => say::text(
+            rt,
             b"a count, depth or text limit is passed, or 32 files are shelved",
         ),
-        Refusal::TextWrong => say::text(b"a text breaks its byte rule"),
-        Refusal::NameTaken => say::text(b"a file of that name is on the shelf"),
-        Refusal::ImportMissing => say::text(b"an import is not on the shelf"),
-        Refusal::NameShared => say::text(b"two messages or enums of the file share a full name"),
-        Refusal::EntryName => say::text(b"a map entry's name does not end in Entry"),
+        Refusal::TextWrong => say::text(rt, b"a text breaks its byte rule"),
+        Refusal::NameTaken => say::text(rt, b"a file of that name is on the shelf"),
+        Refusal::ImportMissing => say::text(rt, b"an import is not on the shelf"),
+        Refusal::NameShared => say::text(
+            rt,
+            b"two messages or enums of the file share a full name",
+        ),
+        Refusal::EntryName => say::text(rt, b"a map entry's name does not end in Entry"),
         Refusal::EntryNotBare => say::text(
+            rt,
             b"a map entry has extensions, extension ranges, nested messages or enums",
         ),
         Refusal::EntryFields => say::text(
+            rt,
             b"a map entry's fields are not key = 1 and value = 2, in that order, both optional",
         ),
         Refusal::DefaultWrong => say::text(
+            rt,
             b"a default cannot be read, or is one of a message or a group",
         ),
-        Refusal::DefaultBarred => say::text(b"defaults of double, float and bytes are not read"),
-        Refusal::ExtendeeAbsent => say::text(b"an extension at file level extends nothing"),
-        Refusal::MessageMissing => say::text(b"a message or an extendee is not found"),
-        Refusal::EnumMissing => say::text(b"an enum is not found"),
+        Refusal::DefaultBarred => say::text(
+            rt,
+            b"defaults of double, float and bytes are not read",
+        ),
+        Refusal::ExtendeeAbsent => say::text(rt, b"an extension at file level extends nothing"),
+        Refusal::MessageMissing => say::text(rt, b"a message or an extendee is not found"),
+        Refusal::EnumMissing => say::text(rt, b"an enum is not found"),
         Refusal::FieldClash => say::text(
+            rt,
             b"its number, name or JSON name clashes with an earlier field's",
         ),
-        Refusal::NoRoom => say::text(b"the shelf has no room for the record"),
+        Refusal::NoRoom => say::text(rt, b"the shelf has no room for the record"),
     }
 }
 
 // What a refusal's place counts, nothing where it has none.
-fn place_of(r: Refusal) -> usize
+fn place_of(rt: &impl Print, r: Refusal) -> usize
     ensures { result ≤ 20 }
 {
     let number = r.number();
     match number {
-        7 => say::text(b", import row "),
-        9..=11 => say::text(b", message "),
-        12..=17 => say::text(b", field "),
+        7 => say::text(rt, b", import row "),
+        9..=11 => say::text(rt, b", message "),
+        12..=17 => say::text(rt, b", field "),
         _ => 0,
     }
 }
 
 // A refusal: its number, its place where it has one, and what it says.
-pub fn tell_refusal(r: Refusal, place: u32) -> usize
+pub fn tell_refusal(rt: &impl Print, r: Refusal, place: u32) -> usize
     ensures { result ≤ 200 }
 {
-    let n = say::text(b"refused ") + say::number(r.number() as u64);
-    let k = place_of(r);
+    let n = say::text(rt, b"refused ") + say::number(rt, r.number() as u64);
+    let k = place_of(rt, r);
     if k == 0 {
-        return n + say::text(b": ") + reason(r);
+        return n + say::text(rt, b": ") + reason(rt, r);
     }
-    n + k + say::number(place as u64) + say::text(b": ") + reason(r)
+    n + k + say::number(rt, place as u64) + say::text(rt, b": ") + reason(rt, r)
 }
 
 // Why a file was not read.
-pub fn tell_unread(c: Cause) -> usize
+pub fn tell_unread(rt: &impl Print, c: Cause) -> usize
     ensures { result ≤ 100 }
 {
-    let n = say::text(b"not read (");
-    n + tell_cause(c) + say::text(b")")
+    let n = say::text(rt, b"not read (");
+    n + tell_cause(rt, c) + say::text(rt, b")")
 }
 
 // Why a file is no shelf file.
-fn tell_no_shelf(f: Fault) -> usize
+fn tell_no_shelf(rt: &impl Print, f: Fault) -> usize
     ensures { result ≤ 100 }
 {
-    let n = say::text(b"not a shelf file (");
-    n + tell_fault(f) + say::text(b")")
+    let n = say::text(rt, b"not a shelf file (");
+    n + tell_fault(rt, f) + say::text(rt, b")")
 }
 
 // What opening a shelf file came to.
-fn tell_state(s: State) -> usize
+fn tell_state(rt: &impl Print, s: State) -> usize
     ensures { result ≤ 100 }
 {
     match s {
-        State::Ready => say::text(b"a well-formed shelf"),
-        State::Unread(c) => tell_unread(c),
-        State::NoShelf(f) => tell_no_shelf(f),
-        State::Broken => say::text(b"a shelf file whose shelf is not well formed"),
+        State::Ready => say::text(rt, b"a well-formed shelf"),
+        State::Unread(c) => tell_unread(rt, c),
+        State::NoShelf(f) => tell_no_shelf(rt, f),
+        State::Broken => say::text(rt, b"a shelf file whose shelf is not well formed"),
     }
 }
 
 // What opening a shelf file came to, as a line. The answer counts what stands behind the path.
-pub fn tell_shelf(path: &[u8], s: State) -> usize
+pub fn tell_shelf(rt: &impl Print, path: &[u8], s: State) -> usize
     ensures { result ≤ 110 }
 {
-    say::text(path);
-    let n = say::text(b": ");
-    n + tell_state(s) + say::text(b"\n")
+    say::text(rt, path);
+    let n = say::text(rt, b": ");
+    n + tell_state(rt, s) + say::text(rt, b"\n")
 }
 
-fn tell_unwritten(c: Cause) -> usize
+fn tell_unwritten(rt: &impl Print, c: Cause) -> usize
     ensures { result ≤ 100 }
 {
-    let n = say::text(b"not written (");
-    n + tell_cause(c) + say::text(b")")
+    let n = say::text(rt, b"not written (");
+    n + tell_cause(rt, c) + say::text(rt, b")")
 }
 
 // What storing a file came to.
-pub fn tell_stored(s: Stored) -> usize
+pub fn tell_stored(rt: &impl Print, s: Stored) -> usize
     ensures { result ≤ 100 }
 {
     match s {
-        Stored::Whole => say::text(b"written"),
-        Stored::NoRoom => say::text(b"not written (it is too long)"),
-        Stored::Unwritten(c) => tell_unwritten(c),
+        Stored::Whole => say::text(rt, b"written"),
+        Stored::NoRoom => say::text(rt, b"not written (it is too long)"),
+        Stored::Unwritten(c) => tell_unwritten(rt, c),
     }
 }
 
 // A file of a shelf, by its number and name. No name on a shelf is longer than 128 bytes.
-pub fn tell_file(f: u32, name: &[u8]) -> usize
+pub fn tell_file(rt: &impl Print, f: u32, name: &[u8]) -> usize
     ensures { result ≤ 160 }
 {
-    let n = say::text(b"file ") + say::number(f as u64) + say::text(b", ");
-    n + say::text(front_bytes(name, 128))
+    let n = say::text(rt, b"file ") + say::number(rt, f as u64) + say::text(rt, b", ");
+    n + say::text(rt, front_bytes(name, 128))
 }

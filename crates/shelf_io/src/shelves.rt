@@ -12,6 +12,7 @@ use formats::shelf_file;
 use formats::shelf_file::ShelfRead;
 use image::shelf::{Places, Used};
 use image::well_formed;
+use std::rt::{Env, Files};
 use tokens::front_bytes;
 
 // The words and bytes of the longest shelf, and room for its file and one byte more, by which a longer file is known.
@@ -22,7 +23,7 @@ pub const SHELF_BYTES: usize = 131072;
 pub const FILE_ROOM: usize = 1179673;
 
 // What opening a shelf file came to: a well-formed shelf; or the file was not read, or it is no shelf file, or its shelf is not well formed.
-#[derive(Drop)]
+#[derive(Clone, Copy)]
 pub enum State {
     Ready,
     Unread(Cause),
@@ -31,7 +32,7 @@ pub enum State {
 }
 
 // The numbers of a shelf, and where its files stand. Where no shelf was read they are those of a shelf with no file.
-#[derive(Drop)]
+#[derive(Clone, Copy)]
 pub struct Opened {
     pub state: State,
     pub used: Used,
@@ -39,7 +40,7 @@ pub struct Opened {
 }
 
 // What the bytes of a file were: a shelf with these numbers, or none.
-#[derive(Drop)]
+#[derive(Clone, Copy)]
 struct Decoded {
     state: State,
     used: Used,
@@ -77,10 +78,16 @@ fn decode(file: &[u8], words: &mut [u32], bytes: &mut [u8]) -> Decoded
 }
 
 // Reads a file, and its shelf.
-fn load(path: &[u8], file: &mut [u8], words: &mut [u32], bytes: &mut [u8]) -> Decoded
+fn load(
+    rt: &impl Files,
+    path: &[u8],
+    file: &mut [u8],
+    words: &mut [u32],
+    bytes: &mut [u8],
+) -> Decoded
     ensures { Kept result.state result.used words.old bytes.old words.new bytes.new }
 {
-    let loaded = files::read_whole(path, file);
+    let loaded = files::read_whole(rt, path, file);
     match loaded {
         Loaded::Unread(cause) => none(State::Unread(cause)),
         Loaded::TooLong => none(State::NoShelf(Fault::TooLong)),
@@ -89,10 +96,16 @@ fn load(path: &[u8], file: &mut [u8], words: &mut [u32], bytes: &mut [u8]) -> De
 }
 
 // Opens a shelf file: it is read to the front of `words` and `bytes`, and judged. `file` is room for the file and one byte more.
-pub fn open_shelf(path: &[u8], file: &mut [u8], words: &mut [u32], bytes: &mut [u8]) -> Opened
+pub fn open_shelf(
+    rt: &impl Files,
+    path: &[u8],
+    file: &mut [u8],
+    words: &mut [u32],
+    bytes: &mut [u8],
+) -> Opened
     ensures { Opens result words.old bytes.old words.new bytes.new }
 {
-    let decoded = load(path, file, words, bytes);
+    let decoded = load(rt, path, file, words, bytes);
     let used = decoded.used;
     let places = well_formed::read_shelf(words, bytes, used);
     // A shelf with no file is well formed, so only one that was read can be broken.
@@ -113,28 +126,41 @@ pub fn open_shelf(path: &[u8], file: &mut [u8], words: &mut [u32], bytes: &mut [
 }
 
 // Opens the shelf file that word `i` names, and says what is wrong where it is not ready.
-pub fn open_named(i: usize, file: &mut [u8], words: &mut [u32], bytes: &mut [u8]) -> Opened
+pub fn open_named(
+    rt: &(impl Env + Files + Print),
+    i: usize,
+    file: &mut [u8],
+    words: &mut [u32],
+    bytes: &mut [u8],
+) -> Opened
     ensures { Opens result words.old bytes.old words.new bytes.new }
 {
     let mut buffer = io::buffer();
-    let n = read_word(i, &mut buffer);
+    let n = read_word(rt, i, &mut buffer);
     let path = front_bytes(&buffer, n);
-    let opened = open_shelf(path, file, words, bytes);
+    let opened = open_shelf(rt, path, file, words, bytes);
     let state = opened.state;
     if let State::Ready = state {
         return opened;
     }
-    tell_shelf(path, state);
+    tell_shelf(rt, path, state);
     opened
 }
 
 // Stores the used words and bytes of a shelf whole or not at all. `file` is room for the file.
-pub fn store_shelf(path: &[u8], words: &[u32], bytes: &[u8], used: Used, file: &mut [u8]) -> Stored
+pub fn store_shelf(
+    rt: &impl Files,
+    path: &[u8],
+    words: &[u32],
+    bytes: &[u8],
+    used: Used,
+    file: &mut [u8],
+) -> Stored
     ensures { file.new ≡ (write_shelf words.now bytes.now used.words used.bytes used.files file.old).out }
 {
     let made = shelf_file::write_shelf(words, bytes, used.words, used.bytes, used.files, file);
     match made {
         Written::Nothing => Stored::NoRoom,
-        Written::Bytes(n) => files::store_whole(path, front_bytes(file, n)),
+        Written::Bytes(n) => files::store_whole(rt, path, front_bytes(file, n)),
     }
 }

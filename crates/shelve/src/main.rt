@@ -3,14 +3,17 @@
 //     shelve SHELF IMAGE ..
 //
 // A shelf file that is not there is made. It is written if at least one image was accepted, whole or not at all.
+#![tactic(auto)]
+
 mod images;
 mod tally;
 
 use image::shelf::Used;
-use shelf_io::arguments::read_word;
+use shelf_io::arguments::{count_words, read_word};
 use shelf_io::files::Cause;
 use shelf_io::shelves::State;
 use shelf_io::{say, sentences, shelves};
+use std::rt::{Env, Files};
 use tally::Tally;
 use tokens::front_bytes;
 
@@ -32,58 +35,81 @@ fn is_missing(cause: Cause) -> bool {
 }
 
 // Links the images that are named behind the shelf.
-fn link_all(words: &mut [u32], bytes: &mut [u8], file: &mut [u8], used: Used) -> Tally {
-    let count = os::arg_count();
+fn link_all(
+    rt: &(impl Env + Files + Print),
+    words: &mut [u32],
+    bytes: &mut [u8],
+    file: &mut [u8],
+    used: Used,
+) -> Tally {
+    let count = count_words(rt);
     let mut t = tally::start(used);
     let mut i = 2;
     while i < count {
-        t = images::link_named(i, words, bytes, file, t);
-        say::text(b"\n");
+        t = images::link_named(rt, i, words, bytes, file, t);
+        say::text(rt, b"\n");
         i += 1;
     }
     t
 }
 
 // Stores the shelf if something was accepted.
-fn finish(path: &[u8], words: &[u32], bytes: &[u8], file: &mut [u8], t: Tally) {
-    say::text(path);
-    say::text(b": ");
-    tally::tell(t);
+fn finish(
+    rt: &(impl Files + Print),
+    path: &[u8],
+    words: &[u32],
+    bytes: &[u8],
+    file: &mut [u8],
+    t: Tally,
+) {
+    say::text(rt, path);
+    say::text(rt, b": ");
+    tally::tell(rt, t);
     if t.accepted == 0 {
-        say::text(b"; not written, since nothing was accepted\n");
+        say::text(rt, b"; not written, since nothing was accepted\n");
         return;
     }
-    say::text(b"; ");
-    sentences::tell_stored(shelves::store_shelf(path, words, bytes, t.used, file));
-    say::text(b"\n");
+    say::text(rt, b"; ");
+    sentences::tell_stored(
+        rt,
+        shelves::store_shelf(rt, path, words, bytes, t.used, file),
+    );
+    say::text(rt, b"\n");
 }
 
-fn shelve(path: &[u8], words: &mut [u32], bytes: &mut [u8], file: &mut [u8]) {
-    let opened = shelves::open_shelf(path, file, words, bytes);
+fn shelve(
+    rt: &(impl Env + Files + Print),
+    path: &[u8],
+    words: &mut [u32],
+    bytes: &mut [u8],
+    file: &mut [u8],
+) {
+    let opened = shelves::open_shelf(rt, path, file, words, bytes);
     let state = opened.state;
     if !can_start(state) {
-        sentences::tell_shelf(path, state);
+        sentences::tell_shelf(rt, path, state);
         return;
     }
-    let t = link_all(words, bytes, file, opened.used);
-    finish(path, words, bytes, file, t);
+    let t = link_all(rt, words, bytes, file, opened.used);
+    finish(rt, path, words, bytes, file, t);
 }
 
-fn run(words: &mut [u32], bytes: &mut [u8], file: &mut [u8]) {
-    if os::arg_count() < 3 {
+fn run(rt: &(impl Env + Files + Print), words: &mut [u32], bytes: &mut [u8], file: &mut [u8]) {
+    if count_words(rt) < 3 {
         say::text(
+            rt,
             b"usage: shelve SHELF IMAGE ..   links image files onto a shelf file, in the order given\n",
         );
         return;
     }
     let mut path = io::buffer();
-    let n = read_word(1, &mut path);
-    shelve(front_bytes(&path, n), words, bytes, file);
+    let n = read_word(rt, 1, &mut path);
+    shelve(rt, front_bytes(&path, n), words, bytes, file);
 }
 
-fn main() {
+fn main(rt: HostRuntime) {
     let mut words = [0u32; shelves::SHELF_WORDS];
     let mut bytes = [0u8; shelves::SHELF_BYTES];
     let mut file = [0u8; shelves::FILE_ROOM];
-    run(&mut words, &mut bytes, &mut file);
+    run(&rt, &mut words, &mut bytes, &mut file);
 }

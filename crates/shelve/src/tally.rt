@@ -3,7 +3,7 @@ use image::shelf::Used;
 use shelf_io::counts::one_more;
 use shelf_io::say;
 
-#[derive(Drop)]
+#[derive(Clone, Copy)]
 pub struct Tally {
     pub used: Used,
     pub accepted: u64,
@@ -38,11 +38,11 @@ impl Tally {
     }
 }
 
-pub fn tell(t: Tally) {
-    say::number(t.accepted);
-    say::text(b" accepted, ");
-    say::number(t.refused);
-    say::text(b" refused, ");
-    say::number(t.unread);
-    say::text(b" not read");
+pub fn tell(rt: &impl Print, t: Tally) {
+    say::number(rt, t.accepted);
+    say::text(rt, b" accepted, ");
+    say::number(rt, t.refused);
+    say::text(rt, b" refused, ");
+    say::number(rt, t.unread);
+    say::text(rt, b" not read");
 }

@@ -1,0 +1,6 @@
+-- `njuolasti::abi::njuolasti_enum` meets its contract. Assumes nothing.
+use Rattle.njuolasti.proofs.AbiLaws.{told}
+use Rattle.njuolasti.proofs.abi.njuolasti_enum.Goals as goal
+
+pub returns : goal.returns
+returns c = told c.number.ensures c.value.ensures c.enum_by_full_name-l.ensures

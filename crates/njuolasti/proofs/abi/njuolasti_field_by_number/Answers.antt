@@ -1,0 +1,6 @@
+-- `njuolasti::abi::njuolasti_field_by_number` meets its contract. Assumes nothing.
+use Rattle.njuolasti.proofs.AbiLaws.{told}
+use Rattle.njuolasti.proofs.abi.njuolasti_field_by_number.Goals as goal
+
+pub returns : goal.returns
+returns c = told c.number.ensures c.value.ensures c.field_by_number-l.ensures
