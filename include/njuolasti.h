@@ -1,5 +1,5 @@
 /*
- * Njuolasti's C interface, for x86-64 Linux (System V ABI). `rt staticlib njuolasti` writes the archive: target/staticlib/libnjuolasti.a.
+ * Njuolasti's C interface, for x86-64 Linux (System V ABI). `./staticlib` writes the archive: target/staticlib/libnjuolasti.a.
  *
  * A schema file is lent as an image (words and a pool of bytes) and linked onto a shelf. The shelf is the caller's own memory: words, bytes,
  * and three numbers that say how many words, bytes and files of it are used. An empty shelf has the numbers 0, 0 and 0, and its words and

@@ -1,4 +1,4 @@
-//! Links the archive that `rt staticlib njuolasti` writes, or on another machine than x86-64 the one of `oracle/native`, where there is one. The
+//! Links the archive that `./staticlib` writes, or on another machine than x86-64 the one of `oracle/native`, where there is one. The
 //! oracle builds without it too: the commands that run our linker in the same process then say what is missing.
 
 use std::env;

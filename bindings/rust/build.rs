@@ -1,4 +1,4 @@
-//! Links the archive that `rt staticlib njuolasti` writes.
+//! Links the archive that `./staticlib` writes.
 
 use std::env;
 use std::path::PathBuf;
@@ -18,7 +18,7 @@ fn main() {
     println!("cargo:rerun-if-changed={}", archive.display());
     if !archive.is_file() {
         stop(&format!(
-            "there is no {}: run rt staticlib njuolasti in the repository, or set NJUOLASTI_LIB_DIR to the folder that holds {ARCHIVE}",
+            "there is no {}: run ./staticlib in the repository, or set NJUOLASTI_LIB_DIR to the folder that holds {ARCHIVE}",
             archive.display()
         ));
     }

@@ -55,7 +55,7 @@ const USAGE: &str =
        oracle image SET -o FOLDER";
 
 #[cfg(not(has_njuolasti))]
-const NOT_LINKED: &str = "this oracle was built without our linker, which is linked in on Linux alone: run rt staticlib njuolasti in the repository (on another machine than x86-64 oracle/native), then oracle/build";
+const NOT_LINKED: &str = "this oracle was built without our linker, which is linked in on Linux alone: run ./staticlib in the repository (on another machine than x86-64 oracle/native), then oracle/build";
 
 /// What a command comes to: nothing wrong, differences found, or files left out.
 enum Outcome {
