@@ -8,11 +8,11 @@ use mathlib.Core.Bool.{Bool, true, false, ◌&&◌, ◌||◌}
 use mathlib.Core.List.{List, [], ◌∷◌, append_assoc}
 use mathlib.Core.Path.{◌≡◌, refl, sym, ◌∙◌, ap}
 use lib.Dec.{eqb}
-use lib.ListN.{length}
+use lib.ListN.{length, take, get_or}
 use lib.Seq.{drop-drop}
 use lib.Pointwise.{pointwise}
 use borrow.Rule.Slice.PartMut.{put_mid}
-use borrow.Author.Tests.{lt-ltb, le-ltb}
+use borrow.Author.Tests.{ne_eqb}
 use Rattle.std.specs.Prelude.{Option, Some, None}
 use Rattle.std.specs.List.{list_all, list_any, starts_with, range_with_len, find}
 use Rattle.std.specs.Fn.{Called}
@@ -24,11 +24,12 @@ use Rattle.std.proofs.iter.Yields.{nat_range_steps}
 use Rattle.std.proofs.lemmas.Iterator.{YieldsList-from_range}
 use Rattle.std.proofs.lemmas.Iterator.Search.{all_from_yields_List, any_from_yields_List}
 use denote.Param.Members.{Mut}
-use Rattle.lists.specs.Below.{all_below, any_below, first_below, found_below}
+use Rattle.lists.specs.Below.{all_below, any_below}
 use Rattle.lists.specs.Splice.{splice}
-use Rattle.lists.specs.Lists.{all, same, is_prefix_of}
-use Rattle.lists.proofs.Cases.{equal, and-true, or-false}
-use Rattle.lists.proofs.BelowLaws.{searched}
+use Rattle.lists.specs.Lists.{is_empty, all, same, is_prefix_of}
+use Rattle.lists.proofs.Cases.{by, clash, equal, eqb_comm, and-true, or-false}
+use Rattle.lists.proofs.BelowLaws.{all_below_intro, all_below_elim}
+use Rattle.lists.proofs.ListLaws.{all_elim, all_intro}
 
 -- ---- slices
 
@@ -40,12 +41,25 @@ same_pointwise [] (b ∷ t) = refl
 same_pointwise (a ∷ s) [] = refl
 same_pointwise (a ∷ s) (b ∷ t) = ap (λ v. eqb a b && v) (same_pointwise s t)
 
+-- `s.is_empty()`
+pub empty_length : {A : Type 0} (s : List A) → eqb (length s) 0 ≡ is_empty s
+unfolding is_empty
+empty_length [] = refl
+empty_length (x ∷ s) = ne_eqb (length (x ∷ s)) 0 (λ e. omega (arith, e))
+
 -- `s.starts_with(p)`
 pub prefix_starts : (p s : List ℕ) → starts_with eqb s p ≡ is_prefix_of p s
 unfolding is_prefix_of
 prefix_starts [] s = refl
 prefix_starts (a ∷ p) [] = refl
 prefix_starts (a ∷ p) (b ∷ s) = ap (λ v. eqb a b && v) (prefix_starts p s)
+
+-- `s.strip_prefix(p)`
+pub prefix_taken : (p s : List ℕ) → pointwise eqb (take (length p) s) p ≡ is_prefix_of p s
+unfolding is_prefix_of
+prefix_taken [] s = refl
+prefix_taken (a ∷ p) [] = refl
+prefix_taken (a ∷ p) (b ∷ s) = ap (λ v. v && pointwise eqb (take (length p) s) p) (eqb_comm b a) ∙ ap (λ v. eqb a b && v) (prefix_taken p s)
 
 -- `s.iter().all(p)`
 pub all_list_all : {A : Type 0} (p : A → Bool) (s : List A) → list_all p s ≡ all p s
@@ -113,12 +127,6 @@ find_hit p a (suc n) k l m e h = equal a k
     (λ i. let f : p a ≡ true = rw i e in rw (f, i))
     (λ i. rw (h a (omega arith) (omega (arith, i))) (find_hit p (a + 1) n k (omega (arith, i)) (omega arith) e (λ j x y. h j (omega arith) y)))
 
--- `(0..n).find(p)`
-pub range_find : (n : ℕ) (p : ℕ → Bool) → find p (range_with_len 0 n) ≡ found_below n (first_below n p n)
-range_find n p = searched n p n
-    (λ r e. find_hit p 0 n r.at (omega arith) (omega (arith, r.below)) r.has (λ i l m. r.first i m) ∙ (rw (e, lt-ltb _ _ r.below)))
-    (λ h e. find_none p 0 n (λ k l m. h k (omega arith)) ∙ (rw (e, le-ltb n n (omega arith))))
-
 -- what `(0..n).all(f)` and `(0..n).any(f)` answer, from the clause `ran` of the call, where the closure f computes p
 pub all_of_range : {F : Type 0} {g : Mut F (ℕ × Unit {0}) Bool} (n : ℕ) (p : ℕ → Bool) (u : Range ℕ) (f : F) (r : Bool)
     → (xs : List ℕ) × (o : Option ℕ) × (j : F) × YieldsThen nat_range_steps (record { start = 0; end = n }) xs o u × FoldsTo (λ h x q. Called g h (x, tt) true q) f xs j × MatchOption o (r ≡ true) (λ x. (r ≡ false) × ((h : F) × Called g j (x, tt) false h))
@@ -129,3 +137,12 @@ pub any_of_range : {F : Type 0} {g : Mut F (ℕ × Unit {0}) Bool} (n : ℕ) (p 
     → (xs : List ℕ) × (o : Option ℕ) × (j : F) × YieldsThen nat_range_steps (record { start = 0; end = n }) xs o u × FoldsTo (λ h x q. Called g h (x, tt) false q) f xs j × MatchOption o (r ≡ false) (λ x. (r ≡ true) × ((h : F) × Called g j (x, tt) true h))
     → ((x : ℕ) (b : Bool) (q : F) → Called g f (x, tt) b q → (q ≡ f) × (b ≡ p x)) → r ≡ any_below n p
 any_of_range n p u f r ran k = any_from_yields_List p u f r ran (YieldsList-from_range 0 n n refl (omega arith)) k ∙ range_any n p
+
+-- `s.iter().all(p)` by places
+pub list_all_below : {A : Type 0} (p : A → Bool) (s : List A) (d : A) → list_all p s ≡ all_below (length s) (λ i. p (get_or s i d))
+list_all_below p s d =
+    by (list_all p s)
+    (λ t. t ∙ sym (all_below_intro (length s) (λ i. p (get_or s i d)) (λ i l. all_elim p s d (sym (all_list_all p s) ∙ t) i l)))
+    (λ f. by (all_below (length s) (λ i. p (get_or s i d)))
+    (λ t. clash (list_all p s) (all_list_all p s ∙ all_intro p s d (λ i l. all_below_elim (length s) (λ j. p (get_or s j d)) t i l)) f)
+    (λ g. f ∙ sym g))

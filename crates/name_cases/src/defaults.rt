@@ -1,7 +1,7 @@
 // Defaults of each type.
 use crate::say;
 use names::runtime_type_box;
-use names::runtime_type_box::{DefaultRead, FieldType, TypeRead, Words};
+use names::runtime_type_box::{DefaultRefused, ReadDefault, Words};
 
 fn words(rt: &impl Print, w: Words) {
     say::text(rt, b", words ");
@@ -12,25 +12,24 @@ fn words(rt: &impl Print, w: Words) {
 
 // What a default of a type says. The text is taken to start at byte 7 of its pool.
 fn read(rt: &impl Print, number: u32, value: &[u8]) {
-    let known = runtime_type_box::type_of(number);
-    let TypeRead::Known(t) = known else {
+    let Some(t) = runtime_type_box::type_of(number) else {
         say::text(rt, b": no such type\n");
         return;
     };
     let r = runtime_type_box::from_proto_type(t);
     let answer = runtime_type_box::parse_proto_default_value(r, value, 7);
     match answer {
-        DefaultRead::Integer(w) => {
+        Ok(ReadDefault::Integer(w)) => {
             say::text(rt, b": integer or bool");
             words(rt, w);
         }
-        DefaultRead::Text(w) => {
+        Ok(ReadDefault::Text(w)) => {
             say::text(rt, b": text");
             words(rt, w);
         }
-        DefaultRead::ValueName => say::text(rt, b": an enum's value"),
-        DefaultRead::Unreadable => say::text(rt, b": refused, 12"),
-        DefaultRead::Unsupported => say::text(rt, b": refused, 13"),
+        Ok(ReadDefault::ValueName) => say::text(rt, b": an enum's value"),
+        Err(DefaultRefused::Unreadable) => say::text(rt, b": refused, 12"),
+        Err(DefaultRefused::Unsupported) => say::text(rt, b": refused, 13"),
     }
     say::text(rt, b"\n");
 }

@@ -1,19 +1,17 @@
 // Derived JSON names, and keys.
 use crate::say;
-use names::name::Fronted;
 use names::{json_name, key};
 
 fn derive(rt: &impl Print, name: &[u8]) {
     let mut out = [b'-'; 8];
     say::text(rt, b"JSON name of ");
     say::quoted(rt, name);
-    let written = json_name::write_json_name(&mut out, name);
-    match written {
-        Fronted::Written(n) => {
+    match json_name::write_json_name(&mut out, name) {
+        Some(n) => {
             say::text(rt, b": length ");
             say::number(rt, n as u64);
         }
-        Fronted::TooShort => say::text(rt, b": no room"),
+        None => say::text(rt, b": no room"),
     }
     say::text(rt, b", buffer ");
     say::quoted(rt, &out);

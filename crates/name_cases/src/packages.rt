@@ -1,16 +1,15 @@
 // Names beneath a package, and joined names.
 use crate::say;
 use names::name;
-use names::name::Fronted;
 
 fn rest(rt: &impl Print, full: &[u8], package: &[u8]) {
     say::quoted(rt, full);
     say::text(rt, b" beneath package ");
     say::quoted(rt, package);
-    if !name::lies_beneath(full, package) {
-        say::text(rt, b": no, rest ");
-    } else {
+    if name::lies_beneath(full, package) {
         say::text(rt, b": yes, rest ");
+    } else {
+        say::text(rt, b": no, rest ");
     }
     say::quoted(rt, name::rest_beneath(full, package));
     say::text(rt, b"\n");
@@ -45,13 +44,12 @@ fn join(rt: &impl Print, first: &[u8], second: &[u8]) {
     say::quoted(rt, first);
     say::text(rt, b" and ");
     say::quoted(rt, second);
-    let joined = name::concat_paths(&mut out, first.len(), second);
-    match joined {
-        Fronted::Written(n) => {
+    match name::concat_paths(&mut out, first.len(), second) {
+        Some(n) => {
             say::text(rt, b": length ");
             say::number(rt, n as u64);
         }
-        Fronted::TooShort => say::text(rt, b": no room"),
+        None => say::text(rt, b": no room"),
     }
     say::text(rt, b", buffer ");
     say::quoted(rt, &out);

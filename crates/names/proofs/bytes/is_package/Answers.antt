@@ -1,10 +1,12 @@
 -- `names::bytes::is_package` meets its contract. Assumes nothing.
-use mathlib.Core.Path.{sym, ◌∙◌}
-use Rattle.names.proofs.BytesLaws.{package_none, package_some}
+use Rattle.lists.proofs.StdLaws.{empty_length}
+use Rattle.names.specs.Bytes.{is_package}
 use Rattle.names.proofs.bytes.is_package.Goals as goal
 
-pub returns-then-s-eq0 : goal.returns-then-s-eq0
-returns-then-s-eq0 c = sym (package_none _ c.if-s-eq0.true)
+pub returns-then-is_empty : goal.returns-then-is_empty
+unfolding is_package
+returns-then-is_empty c = simp (← empty_length c.args.s.now, ← c.is_empty.ensures, c.if-is_empty.true)
 
-pub returns : goal.returns
-returns c = c.is_identifier_list.ensures ∙ sym (package_some _ c.if-s-eq0.false)
+pub returns-else-is_empty : goal.returns-else-is_empty
+unfolding is_package
+returns-else-is_empty c = simp (← empty_length c.args.s.now, ← c.is_empty.ensures, c.if-is_empty.false, c.is_identifier_list.ensures)

@@ -1,15 +1,10 @@
 -- `names::integer::read_unsigned` meets its contract. Assumes nothing.
-use Rattle.lists.proofs.ListLaws.{part_all}
-use Rattle.names.proofs.IntegerLaws.{unsigned_none, unsigned-plus, unsigned_bare}
+use Rattle.std.proofs.Common.{refl, ap, sym, ◌∙◌}
+use Rattle.names.specs.Integer.{within, decimal}
+use Rattle.names.proofs.IntegerLaws.{unsigned_stripped}
 use Rattle.names.proofs.integer.read_unsigned.Goals as goal
 
-pub returns-then-s-eq0 : goal.returns-then-s-eq0
-returns-then-s-eq0 c = simp (unsigned_none, c.if-s-eq0.true)
-
-pub returns-then-has_plus : goal.returns-then-has_plus
-returns-then-has_plus c = let a = c.args in
-    simp (unsigned-plus a.limit a.s.now c.if-s-eq0.false c.if-has_plus.true, c.read_digits.ensures, part_all)
-
 pub returns : goal.returns
-returns c = let a = c.args in
-    simp (unsigned_bare a.limit a.s.now c.if-s-eq0.false c.if-has_plus.false, c.read_digits-2.ensures)
+returns c =
+    let a = c.args in
+    c.read_digits.ensures ∙ ap (λ r. within a.limit (decimal r.now)) c.unwrap_or.ensures ∙ sym (unsigned_stripped a.limit a.s.now c.strip_prefix.result _ refl c.strip_prefix.ensures.cases)

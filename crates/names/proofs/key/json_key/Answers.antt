@@ -1,30 +1,14 @@
--- `names::key::json_key` meets its contract: its loop keeps `Keying`, of the derived name. Assumes nothing.
-use Prim.Native.Nat.{◌+◌}
-use native.Mathlib.Omega.{arith}
-use mathlib.Core.Bool.{false}
-use borrow.Author.Tests.{eq-eqb, ne_eqb}
-use lib.ListN.{get_or, drop}
-use Rattle.names.specs.Json.{cased_byte, derived_from, derived_json_name}
-use Rattle.names.proofs.JsonLaws.{json_end, json_skip, json_take}
-use Rattle.names.proofs.KeyLaws.{keying_text, keying_more, keying_end}
+-- `names::key::json_key` meets its contract. Assumes nothing.
+use Rattle.std.proofs.Common.{rules, ◌∙◌}
+use borrow.Author.Tests.{tests}
+use Rattle.std.proofs.lemmas.Iterator.Consumers.{YieldsList-from_first, fold_from_yields_List}
+use Rattle.names.specs.Json.{derived_json_name, json_left}
+use Rattle.names.specs.Key.{key_behind, text_key}
+use Rattle.names.proofs.KeyLaws.{key_fold}
 use Rattle.names.proofs.key.json_key.Goals as goal
-use Rattle.names.proofs.key.json_key.Goals.{then-b-eq95, else-b-eq95}
-
-pub loop-i-init : goal.loop-i-init
-unfolding derived_json_name
-loop-i-init c = (omega arith, keying_text (derived_json_name c.args.name.now))
-
-pub loop-i-preserved : goal.loop-i-preserved
-loop-i-preserved c = let l = c.loop-i in
-    let name = c.args.name.now in
-    let b = get_or name l.i 0 in (
-      omega arith,
-      elim c.if-b-eq95.branch [
-        | then-b-eq95 w ↦ rw (w.key-is, w.up-is, ← json_skip l.up name l.i c.loop-i-test.true (eq-eqb b 95 w.if-b-eq95.true)) l.invariant.1
-        | else-b-eq95 w ↦ rw (w.key-is, w.up-is) (keying_more l.invariant.1 (derived_from false (drop (l.i + 1) name)) (cased_byte l.up b) w.key_behind-key.result (json_take l.up name l.i c.loop-i-test.true (ne_eqb b 95 w.if-b-eq95.false)) (rw w.cased_byte.ensures at w.key_behind-key.ensures))
-      ],
-    )
 
 pub returns : goal.returns
-returns c = let l = c.loop-i in
-    keying_end l.invariant.1 (json_end l.up c.args.name.now l.i c.loop-i-test.false)
+unfolding text_key
+returns c =
+    let s = derived_json_name c.args.name.now in
+    fold_from_yields_List _ key_behind 0 c.fold.result c.fold.ensures.ran (YieldsList-from_first (λ x. x) json_left s c.new.ensures) (λ a x b q k. search (rules, tests)) ∙ key_fold 0 s
