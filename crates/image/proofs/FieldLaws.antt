@@ -5,8 +5,7 @@ use mathlib.Core.List.{List}
 use mathlib.Core.Bool.{true, false}
 use lib.Dec.{eqb}
 use Rattle.lists.specs.Below.{any_below}
-use Rattle.lists.specs.Lists.{is_empty, same}
-use Rattle.names.specs.Json.{derived_json_name}
+use Rattle.lists.specs.Lists.{same}
 use Rattle.image.specs.Clash.{clash, clashes_earlier, field_by_name, field_by_name_or_json, field_by_number, first_clash, is_called, json_name_of}
 use Rattle.image.specs.Schema.{FieldSays, field_of, field_row, schema_in}
 use Rattle.image.specs.Words.{fields_of}
@@ -41,30 +40,6 @@ module _ (image : List ℕ) (s : Sections) (pool : List ℕ) (r : ℕ) (g : Rang
   pub by_either_is : (text : List ℕ) → field_by_name_or_json (schema_in image s pool) r text ≡ first_in g.count (λ j. is_called (says image s pool g j) text)
   unfolding field_by_name_or_json schema_in
   by_either_is text = rw at
-
--- ---- how a field is called
-
-module _ (f : FieldSays) (text : List ℕ) where
-  pub called_own : same f.name text ≡ true → is_called f text ≡ true
-  unfolding is_called
-  called_own e = simp e
-
-  pub called_derived : same f.name text ≡ false → is_empty f.json_name ≡ true → is_called f text ≡ same (derived_json_name f.name) text
-  unfolding is_called json_name_of
-  called_derived e h = simp (e, h)
-
-  pub called_given : same f.name text ≡ false → is_empty f.json_name ≡ false → is_called f text ≡ same f.json_name text
-  unfolding is_called json_name_of
-  called_given e h = simp (e, h)
-
-module _ (f : FieldSays) where
-  pub json_derived : is_empty f.json_name ≡ true → json_name_of f ≡ derived_json_name f.name
-  unfolding json_name_of
-  json_derived h = simp h
-
-  pub json_given : is_empty f.json_name ≡ false → json_name_of f ≡ f.json_name
-  unfolding json_name_of
-  json_given h = simp h
 
 -- ---- how two fields clash
 

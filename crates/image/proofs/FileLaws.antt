@@ -8,10 +8,14 @@ use lib.ListN.{get_or-eq_default}
 use Rattle.lists.specs.Lists.{table}
 use Rattle.lists.proofs.TableLaws.{get_or_table, length_table}
 use Rattle.image.specs.Words.{trailer_word, sections_of, values_of}
-use Rattle.image.specs.Schema.{Schema, schema_in, schema_of}
+use Rattle.image.specs.Schema.{Schema, schema, schema_in, schema_of}
 use Rattle.image.specs.Links.{enum_row}
 use Rattle.image.specs.Record.{File, no_file, says, link_row, field_link_at, value_count}
 use Rattle.image.specs.LinkTests.{file_by}
+use Rattle.image.specs.Places.{file_of}
+use Rattle.image.specs.declared.schema.Image.{Image}
+use Rattle.image.specs.declared.shelf.File as lent
+use denote.Ref.{Bor}
 use Rattle.image.specs.declared.rows.Range.{Range}
 use Rattle.image.specs.declared.rows.Sections.{Sections}
 use Rattle.image.proofs.SchemaLaws.{schema_of_lem, field_count_in, values_in_lem}
@@ -67,3 +71,28 @@ module _ (file : File) {image : List ℕ} (i : image ≡ file.image) where
           r
           ∙ ap (λ (y : Schema). link_row links (field_link_at y k) 16) says_by
           ∙ ap (λ (x : List ℕ). link_row x (field_link_at (says file) k) 16) l
+
+-- ---- an image that was read of a file's words and pool
+
+pub record Reads (image : Image) (file : File) : Type 0 where
+  pub words : image.rows.words.now ≡ file.image
+  pub sections : image.rows.sections ≡ sections_of image.rows.words.now
+  pub pool : image.pool.now ≡ file.pool
+
+pub reads : (file : File) {image : Image} {w p : Bor (List ℕ)} → image ≡ record { rows = record { words = w; sections = sections_of w.now }; pool = p }
+    → w.now ≡ file.image → p.now ≡ file.pool → Reads image file
+reads file {image} {w} {p} r i q =
+    record {
+      words = ap (λ (x : Image). x.rows.words.now) r ∙ i;
+      sections = ap (λ (x : Image). x.rows.sections) r ∙ ap sections_of (sym (ap (λ (x : Image). x.rows.words.now) r));
+      pool = ap (λ (x : Image). x.pool.now) r ∙ q;
+    }
+
+-- as the program hands on the file
+pub reads_file : (file : File) (f : lent.File) {image : Image} → image ≡ record { rows = record { words = f.image; sections = sections_of f.image.now }; pool = f.pool }
+    → file_of f ≡ file → Reads image file
+reads_file file f r e = reads file r (ap (λ (x : File). x.image) e) (ap (λ (x : File). x.pool) e)
+
+-- what it says
+pub schema_read : (file : File) {image : Image} → Reads image file → schema image ≡ says file
+schema_read file h = says_by file h.words h.sections h.pool

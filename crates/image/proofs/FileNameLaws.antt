@@ -1,11 +1,13 @@
 -- Files at places: one more of them, and which has a name. Assumes nothing.
-use mathlib.Core.Path.{◌≡◌, refl, ap}
+use mathlib.Core.Path.{◌≡◌, refl, sym, ap, ◌∙◌}
 use mathlib.Core.Bool.{Bool}
 use mathlib.Core.List.{List, [], ◌∷◌, ◌++◌}
-use Prim.Native.Nat.{ℕ, ◌+◌, ◌<◌}
+use Prim.Native.Nat.{ℕ, ◌+◌}
 use native.Mathlib.Numerals.{add-one}
 use lib.ListN.{get_or}
+use Rattle.lists.specs.Below.{found_below}
 use Rattle.lists.specs.Lists.{same, table}
+use Rattle.lists.proofs.BelowLaws.{first_agree}
 use Rattle.lists.proofs.TableLaws.{length_table, get_or_table}
 use Rattle.image.specs.Schema.{schema_in}
 use Rattle.image.specs.declared.rows.Sections.{Sections}
@@ -24,13 +26,15 @@ unfolding table
 files_more ws bs p f = rw (add-one)
 
 module _ (ws bs : List ℕ) (p : Places) (n : ℕ) (name : List ℕ) where
-  -- file f of the first n has the name
+  -- file f has the name
   abbrev pub named : ℕ → Bool
-  named f = same (says (get_or (files_in ws bs p n) f no_file)).file_name name
+  named f = same (says (file_in ws bs p f)).file_name name
 
-  pub named_at : (f : ℕ) → f < n → named f ≡ same (says (file_in ws bs p f)).file_name name
-  named_at f h = ap (λ (x : File). same (says x).file_name name) (get_or_table n (file_in ws bs p) f no_file h)
+  abbrev listed : ℕ → Bool
+  listed f = same (says (get_or (files_in ws bs p n) f no_file)).file_name name
 
   pub named_first : first_in n named ≡ file_named (files_in ws bs p n) name
   unfolding file_named
-  named_first = rw (length_table n (file_in ws bs p))
+  named_first =
+      ap (found_below n) (first_agree n named listed n (λ f h. sym (ap (λ (x : File). same (says x).file_name name) (get_or_table n (file_in ws bs p) f no_file h))))
+      ∙ rw (length_table n (file_in ws bs p))

@@ -8,7 +8,7 @@ use borrow.Author.Tests.{lt-ltb, le-ltb}
 use Rattle.names.specs.Package.{concat_paths}
 use Rattle.image.specs.Schema.{Schema}
 use Rattle.image.specs.Links.{message_up, enum_row, enum_up}
-use Rattle.image.specs.FullName.{path, message_path, path_beneath, enum_path, item_name, item_up, item_path, full_name}
+use Rattle.image.specs.FullName.{path, message_path, enum_path, item_name, item_up, item_path, full_name}
 use Rattle.image.specs.Climb.{name_of, path_above, message_above, lead}
 use Rattle.image.proofs.PathTexts.{concat_nil, concat-lead}
 
@@ -25,10 +25,6 @@ module _ (g : Schema) (links : List ℕ) where
     pub message_path_as : item_path g links m ≡ message_path g links 16 m
     unfolding path
     message_path_as = rw (message_name_as, message_up_as)
-
-    pub message_full_as : full_name g links m ≡ concat_paths g.«package» (path_beneath g links (message_up links m) (name_of g links m))
-    unfolding full_name
-    message_full_as = rw (message_name_as, message_up_as)
 
   module _ (e : ℕ) where
     back : g.messages + e - g.messages ≡ e

@@ -25,7 +25,8 @@ use Rattle.image.specs.Limits.{count_tests, counts_within, texts_short, within_l
 use Rattle.image.specs.Judge.{opening, numbered_verdict}
 use Rattle.image.specs.declared.rows.Sections.{Sections}
 use Rattle.image.specs.declared.verdict.Refusal.TheVariants.{LayoutBroken, LimitPassed, TextWrong}
-use Rattle.image.specs.declared.verdict.Verdict.TheVariants.{Passed, Stopped}
+use Rattle.std.specs.Prelude.{Ok}
+use Rattle.image.specs.Verdict.{stopped}
 use Rattle.image.proofs.LaidLaws.{laid_out_lem}
 use Rattle.image.proofs.NamedLaws.{texts_named}
 use Rattle.image.proofs.ChainLaws.{message_row_below, enum_row_below}
@@ -34,19 +35,19 @@ module _ (image : List ℕ) (s : Sections) (pool : List ℕ) where
   abbrev names_short : Bool
   names_short = full_names_short (schema_in image s pool) (links_of (schema_in image s pool))
 
-  pub numbered_long : texts_short image s pool ≡ false → numbered_verdict image s pool ≡ Stopped LimitPassed 0
+  pub numbered_long : texts_short image s pool ≡ false → numbered_verdict image s pool ≡ stopped LimitPassed 0
   unfolding numbered_verdict
   numbered_long p = rw p
 
-  pub numbered_names : texts_short image s pool ≡ true → names_short ≡ false → numbered_verdict image s pool ≡ Stopped LimitPassed 0
+  pub numbered_names : texts_short image s pool ≡ true → names_short ≡ false → numbered_verdict image s pool ≡ stopped LimitPassed 0
   unfolding numbered_verdict
   numbered_names p q = rw (p, q)
 
-  pub numbered_text : texts_short image s pool ≡ true → names_short ≡ true → texts_right image pool ≡ false → numbered_verdict image s pool ≡ Stopped TextWrong 0
+  pub numbered_text : texts_short image s pool ≡ true → names_short ≡ true → texts_right image pool ≡ false → numbered_verdict image s pool ≡ stopped TextWrong 0
   unfolding numbered_verdict
   numbered_text p q r = rw (p, q, r)
 
-  pub numbered_fine : texts_short image s pool ≡ true → names_short ≡ true → texts_right image pool ≡ true → numbered_verdict image s pool ≡ Passed
+  pub numbered_fine : texts_short image s pool ≡ true → names_short ≡ true → texts_right image pool ≡ true → numbered_verdict image s pool ≡ Ok tt
   unfolding numbered_verdict
   numbered_fine p q r = rw (p, q, r)
 
@@ -57,24 +58,24 @@ module _ (image pool : List ℕ) (full : Bool) where
   abbrev parts : Sections
   parts = sections_of image
 
-  pub opening_broken : laid ≡ false → opening image pool full ≡ Stopped LayoutBroken 0
+  pub opening_broken : laid ≡ false → opening image pool full ≡ stopped LayoutBroken 0
   unfolding opening
   opening_broken p = rw p
 
-  pub opening_full : laid ≡ true → full ≡ true → opening image pool full ≡ Stopped LimitPassed 0
+  pub opening_full : laid ≡ true → full ≡ true → opening image pool full ≡ stopped LimitPassed 0
   unfolding opening
   opening_full p q = rw (p, q)
 
   module _ (p : laid ≡ true) (q : full ≡ false) where
-    past : within_limits image pool ≡ false → opening image pool full ≡ Stopped LimitPassed 0
+    past : within_limits image pool ≡ false → opening image pool full ≡ stopped LimitPassed 0
     unfolding opening
     past r = rw (p, q, r)
 
-    pub opening_counts : counts_within parts ≡ false → opening image pool full ≡ Stopped LimitPassed 0
+    pub opening_counts : counts_within parts ≡ false → opening image pool full ≡ stopped LimitPassed 0
     unfolding within_limits
     opening_counts r = past (rw r)
 
-    pub opening-deep : counts_within parts ≡ true → shallow (schema_in image parts pool) ≡ false → opening image pool full ≡ Stopped LimitPassed 0
+    pub opening-deep : counts_within parts ≡ true → shallow (schema_in image parts pool) ≡ false → opening image pool full ≡ stopped LimitPassed 0
     unfolding within_limits
     opening-deep r t = past (rw (r, t))
 

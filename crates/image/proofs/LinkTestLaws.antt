@@ -1,7 +1,7 @@
 -- The tests of link words, over the counts that the code reads. Assumes nothing.
 use mathlib.Core.Path.{◌≡◌, sym, ap, ◌∙◌}
 use mathlib.Core.List.{List}
-use mathlib.Core.Bool.{Bool}
+use mathlib.Core.Bool.{Bool, ◌&&◌}
 use Prim.Native.Nat.{ℕ, ◌+◌, ◌*◌, ◌<◌}
 use native.Mathlib.Nat.{zero-add}
 use native.Mathlib.Omega.{arith}
@@ -9,6 +9,7 @@ use lib.ListN.{length, get_or, length-append}
 use Rattle.lists.specs.Below.{all_below}
 use Rattle.lists.specs.Lists.{same, part}
 use Rattle.lists.specs.Splice.{splice}
+use Rattle.lists.proofs.Cases.{and-true}
 use Rattle.lists.proofs.SpliceLaws.{get_or-splice_in}
 use Rattle.lists.proofs.TableLaws.{length_table}
 use Rattle.image.specs.Words.{word_at}
@@ -17,7 +18,7 @@ use Rattle.image.specs.Flat.{flat_fields, first_field}
 use Rattle.image.specs.Laid.{Sound}
 use Rattle.image.specs.Links.{links_of}
 use Rattle.image.specs.Record.{File, says, link_row, field_link_at, field_link_of, repeated, containers_in, containers}
-use Rattle.image.specs.LinkTests.{field_link_fits, field_links_fit, mark_fits, marks_fit, messages_given, others_given}
+use Rattle.image.specs.LinkTests.{field_link_fits, field_links_fit, mark_fits, marks_fit, messages_given, others_given, links_fit}
 use Rattle.image.specs.declared.rows.Sections.{Sections}
 use Rattle.image.proofs.SchemaLaws.{messages_in, enum_count_in, oneof_count_in}
 use Rattle.image.proofs.Owned.{fields_each, fields_end_lem}
@@ -77,6 +78,16 @@ module _ (files : List File) (file : File) where
       ∙ ap (λ (x : ℕ). field_link_fits files (length file.pool) x container (field_link_of row)) h
       ∙ ap (λ (x : ℕ). field_link_fits files (length file.pool) (get_or (flat_fields (says file)) k 0) x (field_link_of row)) w
       ∙ ap (λ (x : List ℕ). field_link_fits files (length file.pool) (get_or (flat_fields (says file)) k 0) (get_or (containers (says file)) k 0) (field_link_of x)) r
+
+  -- all tests, of what was read of the file
+  pub links_by : {g : Schema} {links : List ℕ} {b : Bool} → g ≡ says file → links ≡ file.links
+      → b ≡ (messages_given g links && (others_given g links && (marks_fit g links && field_links_fit files file))) → b ≡ links_fit files file
+  unfolding links_fit
+  links_by {g} {links} e l p =
+      p
+      ∙ ap (λ (x : Schema). messages_given x links && (others_given x links && (marks_fit x links && field_links_fit files file))) e
+      ∙ ap (λ (x : List ℕ). messages_given (says file) x && (others_given (says file) x && (marks_fit (says file) x && field_links_fit files file))) l
+      ∙ ap (λ (x : Bool). messages_given (says file) file.links && (others_given (says file) file.links && (marks_fit (says file) file.links && x))) (sym (and-true _))
 
 -- ---- fields and their containing words, listed in front of arrays
 

@@ -5,28 +5,22 @@ use mathlib.Core.Bool.{Bool, true, false}
 use mathlib.Core.List.{List}
 use Prim.Native.Nat.{ℕ, ◌+◌, ◌<◌}
 use native.Mathlib.Omega.{arith}
-use borrow.Author.Tests.{lt-ltb, le-ltb}
+use borrow.Author.Tests.{lt-ltb}
 use Rattle.lists.specs.Below.{any_below}
 use Rattle.lists.specs.Lists.{same}
-use Rattle.lists.proofs.BelowLaws.{any_below_false, any_below_none, first_is, first_none}
+use Rattle.lists.proofs.BelowLaws.{any_below_false, any_below_none, first_is}
 use Rattle.lists.proofs.ListLaws.{same_refl}
 use Rattle.image.specs.Schema.{Schema}
 use Rattle.image.specs.FullName.{message_path, enum_path, items, item_path, shares_name}
 use Rattle.image.specs.Lookup.{first_flat, message_by_path, enum_by_path}
 use Rattle.image.specs.Chained.{Named}
-use Rattle.image.specs.declared.full_name.FlatFound.TheVariants.{At, Nothing}
+use Rattle.std.specs.Prelude.{Some}
 use Rattle.image.proofs.ItemLaws.{message_path_as, enum_path_as}
 use Rattle.image.proofs.SiblingLaws.{shares_paths}
 
-pub flat_hit : (n : ℕ) (p : ℕ → Bool) (k : ℕ) → k < n → any_below k p ≡ false → p k ≡ true → first_flat n p ≡ At (record { 0 = k })
+pub flat_hit : (n : ℕ) (p : ℕ → Bool) (k : ℕ) → k < n → any_below k p ≡ false → p k ≡ true → first_flat n p ≡ Some (record { 0 = k })
 unfolding first_flat
 flat_hit n p k l h e = rw (first_is n p n k l e (any_below_false k p h), lt-ltb k n l)
-
-pub flat_none : (n : ℕ) (p : ℕ → Bool) → any_below n p ≡ false → first_flat n p ≡ Nothing
-unfolding first_flat
-flat_none n p h = rw (first_none n p n (any_below_false n p h), le-ltb n n (omega arith))
-
--- ---- depth: one that is great enough loses nothing
 
 -- ---- where rule 8 is kept
 
@@ -38,7 +32,7 @@ module _ {g : Schema} {links : List ℕ} (named : Named g links) (kept : shares_
       (any_below_false (items g) (λ x. any_below x (λ k. same (item_path g links x) (item_path g links k))) (rw (← shares_paths named) kept) i h) j l
 
   -- and each message, and each enum, is found by its own
-  pub found_by_path : (m : ℕ) → m < g.messages → message_by_path g links (message_path g links 16 m) ≡ At (record { 0 = m })
+  pub found_by_path : (m : ℕ) → m < g.messages → message_by_path g links (message_path g links 16 m) ≡ Some (record { 0 = m })
   unfolding message_by_path
   found_by_path m h =
       let p : ℕ → Bool = λ x. same (message_path g links 16 m) (message_path g links 16 x) in
@@ -46,7 +40,7 @@ module _ {g : Schema} {links : List ℕ} (named : Named g links) (kept : shares_
       (any_below_none m p (λ x l. rw (← message_path_as g links m h, ← message_path_as g links x (omega arith)) (paths_differ m x (omega arith) l)))
       (same_refl (message_path g links 16 m))
 
-  pub enum_by_path_lem : (e : ℕ) → e < g.enums → enum_by_path g links (enum_path g links e) ≡ At (record { 0 = e })
+  pub enum_by_path_lem : (e : ℕ) → e < g.enums → enum_by_path g links (enum_path g links e) ≡ Some (record { 0 = e })
   unfolding enum_by_path
   enum_by_path_lem e h =
       let p : ℕ → Bool = λ x. same (enum_path g links e) (enum_path g links x) in

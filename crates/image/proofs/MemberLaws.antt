@@ -1,13 +1,11 @@
 -- Laws of oneofs: counting their members in one pass, and what a synthetic one is. Assumes nothing.
 use Prim.Native.Nat.{ℕ, ◌+◌, ◌<◌, ◌^◌}
-use native.Mathlib.Nat.{add-zero}
 use native.Mathlib.Omega.{arith}
 use mathlib.Core.Path.{◌≡◌, sym, ap, ◌∙◌}
 use mathlib.Core.List.{List}
 use mathlib.Core.Bool.{Bool, true, false, cond, ◌&&◌}
 use lib.Dec.{eqb}
-use lib.ListN.{length, get_or, set}
-use lib.Seq.{get_or-set_same, get_or-set_other}
+use lib.ListN.{length, get_or}
 use borrow.Author.Tests.{eq-eqb, ne_eqb, eqb-true}
 use Rattle.lists.specs.Below.{bit, count_below}
 use Rattle.lists.specs.Lists.{table}
@@ -17,27 +15,11 @@ use Rattle.image.specs.Members.{is_member, member_count, optional_members, regul
 use Rattle.image.specs.Schema.{Schema, schema_in}
 use Rattle.image.specs.Words.{fields_of}
 use Rattle.lists.proofs.BelowLaws.{count_le, count_mono, count_next, count_one, count_start, count_zero}
-use Rattle.lists.proofs.Cases.{and-false, and-true, both, clash, equal, left, right}
+use Rattle.lists.proofs.Cases.{and-false, and-true, both, clash, left, right}
 use Rattle.lists.proofs.TableLaws.{as_table}
 use Rattle.image.proofs.FieldLaws.{says}
 use Rattle.image.specs.declared.rows.Range.{Range}
 use Rattle.image.specs.declared.rows.Sections.{Sections}
-
--- ---- a field joins a oneof
-
--- it names no place of the counts
-pub joined_none : (counts : List ℕ) (oneof : ℕ) → ((k : ℕ) → k < length counts → oneof ≡ k + 1 → ⊥) → Joined counts counts oneof
-joined_none counts oneof h = record { each = λ k l. rw (ne_eqb oneof (k + 1) (h k l)) (sym (add-zero (get_or counts k 0))) }
-
--- it names place i
-pub joined_one : (counts : List ℕ) (oneof i : ℕ) → i < length counts → oneof ≡ i + 1 → Joined counts (set counts i (get_or counts i 0 + 1)) oneof
-joined_one counts oneof i h e =
-    record {
-      each = λ k l.
-          equal k i
-          (λ q. rw (q, eq-eqb oneof (i + 1) e) (get_or-set_same counts i (get_or counts i 0 + 1) 0 h))
-          (λ q. get_or-set_other counts i k (get_or counts i 0 + 1) 0 q ∙ rw (ne_eqb oneof (k + 1) (λ w. q (omega arith))) (sym (add-zero (get_or counts k 0))));
-    }
 
 -- ---- the loop: the first j fields are counted; p k i says that field i counts at place k
 

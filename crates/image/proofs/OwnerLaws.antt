@@ -5,44 +5,20 @@ use native.Mathlib.Omega.{arith}
 use mathlib.Core.Path.{◌≡◌, refl, sym, ap, ◌∙◌}
 use mathlib.Core.List.{List}
 use mathlib.Core.Bool.{Bool, true, false}
-use lib.ListN.{length, get_or, set, length-set}
-use lib.Seq.{get_or-set_same, get_or-set_other}
+use lib.ListN.{length, get_or, replicate, length-replicate}
 use lib.Dec.{eqb}
+use Rattle.std.proofs.lemmas.List.{get_or-replicate}
 use borrow.Author.Tests.{ne_eqb}
 use Rattle.lists.specs.Below.{bit, all_below, count_below}
 use Rattle.lists.specs.Lists.{in_range}
-use Rattle.lists.proofs.Cases.{equal}
+use Rattle.lists.proofs.Cases.{clash}
 use Rattle.lists.proofs.BelowLaws.{all_below_fails, all_below_agree, count_start, count_next, count_grows}
-use Rattle.lists.proofs.SpanLaws.{range_in, range_high, range_none, range_other}
 use Rattle.image.specs.Marks.{Marked, Free}
 
 -- the first k rows of a range are marked
 pub record Ranging (before marks : List ℕ) (first k : ℕ) : Type 0 where
   pub size : length marks ≡ length before
   pub each : (j : ℕ) → j < length before → get_or marks j 0 ≡ get_or before j 0 + bit (in_range first k j)
-
-pub ranging_start : (before : List ℕ) (first : ℕ) → Ranging before before first 0
-ranging_start before first = record { size = refl; each = λ j l. rw (range_none first j) (sym (add-zero (get_or before j 0))) }
-
-module _ {before marks : List ℕ} {first k : ℕ} (g : Ranging before marks first k) (inside : first + k < length before) where
-  -- the next row has no mark of this range yet
-  same : get_or marks (first + k) 0 ≡ get_or before (first + k) 0
-  same = g.each (first + k) inside ∙ rw (range_high first k (first + k) (omega arith)) (add-zero (get_or before (first + k) 0))
-
-  pub ranging_more : get_or marks (first + k) 0 ≡ 0 → Ranging before (set marks (first + k) 1) first (k + 1)
-  ranging_more free =
-      record {
-        size = length-set marks (first + k) 1 ∙ g.size;
-        each = λ j l.
-            equal j (first + k)
-            (λ e. rw e (get_or-set_same marks (first + k) 1 0 (omega (arith, g.size, inside)) ∙ rw (range_in first (k + 1) (first + k) (omega arith) (omega arith)) (omega (arith, same, free))))
-            (λ e. get_or-set_other marks (first + k) j 1 0 e ∙ g.each j l ∙ ap (λ (t : Bool). get_or before j 0 + bit t) (sym (range_other first k j e)));
-      }
-
-  pub ranging_twice : (n : ℕ) → k < n → (get_or marks (first + k) 0 ≡ 0 → ⊥) → (j : ℕ) × (j < length before) × (1 < get_or before j 0 + bit (in_range first n j))
-  ranging_twice n l taken =
-      let e = range_in first n (first + k) (omega arith) (omega arith) in
-      (first + k, inside, rw e (omega (arith, same, taken)))
 
 -- the ranges of the first p rows are marked; f q j says that range q has row j
 pub record Holding (before marks : List ℕ) (f : ℕ → ℕ → Bool) (p : ℕ) : Type 0 where
@@ -89,27 +65,10 @@ module _ {marks after : List ℕ} {more : ℕ → ℕ} {done : Bool} (z : Free m
       ∙ all_below_agree (length marks) (λ j. eqb (get_or after j 0) 1) (λ j. eqb (more j) 1)
       (λ j l. let q : get_or after j 0 ≡ more j = m.grown e j l ∙ rw (z.free j l) (zero-add (more j)) in ap (λ (x : ℕ). eqb x 1) q)
 
--- ---- all marks taken away, from the front: the first n are 0
+-- marks that were all set to 0
+pub filled_free : (n : ℕ) {marks : List ℕ} → marks ≡ replicate n 0 → Free marks
+filled_free n {marks} e = record { free = λ j l. rw e (get_or-replicate n j 0 0 (rw (e, length-replicate {A = ℕ} n 0) at l)) }
 
-pub record Clearing (before marks : List ℕ) (n : ℕ) : Type 0 where
-  pub most : n ≤ length marks
-  pub size : length marks ≡ length before
-  pub each : (j : ℕ) → j < n → get_or marks j 0 ≡ 0
-
-pub clearing_start : (marks : List ℕ) → Clearing marks marks 0
-clearing_start marks = record { most = omega arith; size = refl; each = λ j l. absurd (omega arith) }
-
-module _ {before marks : List ℕ} {n : ℕ} (c : Clearing before marks n) where
-  pub clearing_more : n < length marks → Clearing before (set marks n 0) (n + 1)
-  clearing_more h =
-      record {
-        most = rw (length-set marks n 0) (omega arith);
-        size = length-set marks n 0 ∙ c.size;
-        each = λ j l.
-            equal j n
-            (λ e. rw e (get_or-set_same marks n 0 0 h))
-            (λ e. get_or-set_other marks n j 0 0 e ∙ c.each j (omega arith));
-      }
-
-  pub clearing_end : length marks ≤ n → Free marks
-  clearing_end h = record { free = λ j l. c.each j (omega arith) }
+-- a marking that stopped, as a part of a longer one
+pub marked_stop : {a b : List ℕ} {f t : ℕ → ℕ} {first : Bool} → first ≡ false → ((j : ℕ) → f j ≤ t j) → Marked first a b f → Marked first a b t
+marked_stop {first = first} e some m = record { grown = λ u. clash first u e; twice = λ u. let w = m.twice e in (w.0, w.1, omega (arith, w.2, some w.0)) }

@@ -7,7 +7,7 @@ use native.Mathlib.Omega.{arith}
 use lib.Dec.{leb, eqb}
 use lib.ListN.{length, get_or, take, drop, length-append, take-append-drop}
 use lib.Seq.{drop_at, drop-cons, get_or-drop}
-use borrow.Author.Tests.{eq-eqb, ne_eqb, le-leb, lt-leb, leb-true}
+use borrow.Author.Tests.{eq-eqb, ne_eqb, le-leb, leb-true}
 use Rattle.lists.specs.Lists.{same, is_empty}
 use Rattle.lists.proofs.Cases.{clash, left, right, and-true}
 use Rattle.lists.proofs.ListLaws.{same_refl, same_is, same_differ, same_append}
@@ -114,9 +114,6 @@ ends-length w t e = leb-true (length t) (length w) (left (leb (length t) (length
 
 -- a text that ends in a dot and then a name, test by test
 module _ (w t : List ℕ) where
-  pub ends_short : length w ≤ length t → ends_with w (46 ∷ t) ≡ false
-  ends_short h = rw (lt-leb (suc (length t)) (length w) (omega arith))
-
   ends_at : (k : ℕ) → length w - suc (length t) ≡ k → length w - length t ≡ suc k → length t < length w
       → ends_with w (46 ∷ t) ≡ eqb (get_or w k 0) 46 && same (drop (length w - length t) w) t
   unfolding same
@@ -135,10 +132,6 @@ may_nameless w [] h = refl
 may_nameless w (b ∷ t) h = absurd (omega arith)
 
 module _ (w t : List ℕ) (some : length t ≡ 0 → ⊥) where
-  pub may_short : length w < length t → may_end_in w t ≡ false
-  unfolding may_end_in
-  may_short h = simp (empty_some t some, lt-leb (length t) (length w) h)
-
   pub may_byte : length t ≤ length w → may_end_in w t ≡ eqb (last_byte w) (last_byte t)
   unfolding may_end_in
   may_byte h = simp (empty_some t some, le-leb (length t) (length w) h)

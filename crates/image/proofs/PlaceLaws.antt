@@ -15,9 +15,9 @@ use Rattle.lists.proofs.ListLaws.{part_take}
 use Rattle.lists.proofs.TableLaws.{get_or_table, table_agree}
 use Rattle.image.specs.Record.{File, says, file_at, all_link_words}
 use Rattle.image.specs.Shelf.{Shelf, record_start, image_length, pool_start, pool_length, last_file, before, record_fits, file_fits, files_of, shelved}
-use Rattle.image.specs.Places.{file_in, files_in, column, places_of, chained, files_fit}
+use Rattle.image.specs.Places.{file_in, files_in, no_place, place_on, places_of, chained, files_fit}
 use Rattle.image.specs.declared.shelf.Places.{Places}
-use Rattle.image.proofs.ShelfLaws.{shelf_in, start_within, pool-within, before_in, chain_fits, chain_rest, chain_on, chain_stop, chained_none, column_last, column-before}
+use Rattle.image.proofs.ShelfLaws.{shelf_in, start_within, pool-within, before_in, chain_fits, chain_rest, chain_on, chain_stop, chained_none, place_last, place-before}
 
 -- ---- a file in a front of the slices
 
@@ -33,7 +33,7 @@ file_within ws bs w b start size pool count hw hb =
 
 -- the file at the numbers of file f, of n files
 abbrev pub file_on : List ℕ → List ℕ → ℕ → Shelf → ℕ → File
-file_on ws bs n s f = file_at ws bs (column record_start n s f) (column image_length n s f) (column pool_start n s f) (column pool_length n s f)
+file_on ws bs n s f = file_at ws bs (place_on n s f).start (place_on n s f).image (place_on n s f).pool (place_on n s f).length
 
 -- it is in order behind those before it
 abbrev pub fits_on : List ℕ → List ℕ → ℕ → Shelf → ℕ → Bool
@@ -44,12 +44,11 @@ module _ (ws bs : List ℕ) where
       → file_on ws bs (suc n) (shelf_in ws bs w b) n ≡ last_file (shelf_in ws bs w b)
   file_last n w b hw hb h =
       let s : Shelf = shelf_in ws bs w b in
-      rw (column_last record_start n s, column_last image_length n s, column_last pool_start n s, column_last pool_length n s)
+      rw (place_last n s)
       (sym (file_within ws bs w b (record_start s) (image_length s) (pool_start s) (pool_length s) (start_within ws bs w b hw hb h) (pool-within ws bs w b hw hb h)))
 
   pub file_before : (n : ℕ) (s : Shelf) (f : ℕ) → f < n → file_on ws bs (suc n) s f ≡ file_on ws bs n (before s) f
-  file_before n s f h =
-      rw (column-before record_start n s f h, column-before image_length n s f h, column-before pool_start n s f h, column-before pool_length n s f h)
+  file_before n s f h = rw (place-before n s f h)
 
   pub files_before : (n : ℕ) (s : Shelf) (f : ℕ) → f ≤ n → table f (file_on ws bs (suc n) s) ≡ table f (file_on ws bs n (before s))
   files_before n s f h = table_agree f (file_on ws bs (suc n) s) (file_on ws bs n (before s)) (λ i l. file_before n s i (omega arith))
@@ -60,13 +59,7 @@ module _ (ws bs : List ℕ) where
       ∙ ap (file_fits (table f (file_on ws bs n (before s)))) (file_before n s f h)
 
   pub file_in_lem : (n : ℕ) (s : Shelf) (f : ℕ) → f < 32 → file_in ws bs (places_of n s) f ≡ file_on ws bs n s f
-  file_in_lem n s f h =
-      rw (
-        get_or_table 32 (column record_start n s) f 0 h,
-        get_or_table 32 (column image_length n s) f 0 h,
-        get_or_table 32 (column pool_start n s) f 0 h,
-        get_or_table 32 (column pool_length n s) f 0 h,
-      )
+  file_in_lem n s f h = rw (get_or_table 32 (place_on n s) f no_place h)
 
   pub files_in_lem : (n : ℕ) (s : Shelf) (f : ℕ) → f ≤ 32 → files_in ws bs (places_of n s) f ≡ table f (file_on ws bs n s)
   files_in_lem n s f h = table_agree f (file_in ws bs (places_of n s)) (file_on ws bs n s) (λ i l. file_in_lem n s i (omega arith))

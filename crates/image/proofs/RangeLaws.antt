@@ -1,13 +1,14 @@
 -- What the tests of rows tell of the ranges that rows own. Assumes nothing.
-use Prim.Native.Nat.{ℕ, ◌+◌, ◌≤◌, ◌<◌}
+use Prim.Native.Nat.{ℕ, zero, suc, ◌+◌, ◌≤◌, ◌<◌}
 use native.Mathlib.Nat.{zero-add}
-use mathlib.Core.Path.{◌≡◌, ap}
+use native.Mathlib.Omega.{arith}
+use mathlib.Core.Path.{◌≡◌, refl, ap}
 use mathlib.Core.List.{List}
 use mathlib.Core.Bool.{true, not, ◌||◌}
 use lib.Dec.{eqb, leb}
 use lib.ListN.{length, take}
 use lib.Seq.{length-take-le}
-use borrow.Author.Tests.{leb-true}
+use borrow.Author.Tests.{leb-true, ne_eqb}
 use Rattle.lists.specs.Below.{bit, all_of, all_below}
 use Rattle.lists.proofs.Cases.{left, each}
 use Rattle.lists.proofs.BelowLaws.{all_below_elim, all_below_agree}
@@ -60,3 +61,9 @@ pub own_none : (n : ℕ) (f : ℕ → ℕ) → all_below n (λ j. eqb (bit (cove
 own_none n f =
     all_below_agree n (λ j. eqb (bit (covers (top_level 0) j) + f j) 1) (λ j. eqb (f j) 1)
     (λ j l. let e : bit (covers (top_level 0) j) + f j ≡ f j = rw (range_none 0 j) (zero-add (f j)) in ap (λ (x : ℕ). eqb x 1) e)
+
+-- where rows have no owner, each has one only if there are none
+pub none_owned : (n : ℕ) → eqb n 0 ≡ all_below n (λ j. eqb 0 1)
+unfolding all_below
+none_owned zero = refl
+none_owned (suc n) = ne_eqb (suc n) 0 (λ e. absurd (omega arith))

@@ -1,13 +1,14 @@
 -- Laws of words and rows. Assumes nothing.
-use Prim.Native.Nat.{ℕ, ◌+◌, ◌*◌, ◌≤◌, ◌<◌}
+use Prim.Native.Nat.{ℕ, ◌+◌, ◌-◌, ◌*◌, ◌≤◌, ◌<◌, min}
 use native.Mathlib.Nat.{mul-le-mul_left}
 use native.Mathlib.Omega.{arith}
-use mathlib.Core.List.{List}
-use mathlib.Core.Path.{◌≡◌, refl, sym, ap, ◌∙◌}
-use lib.ListN.{length, take, set, replicate, length-set, length-replicate, get_or-replicate, get_or-eq_default}
-use lib.Seq.{take_all}
-use Rattle.lists.specs.Lists.{table}
-use Rattle.lists.proofs.TableLaws.{table_more, as_table}
+use mathlib.Core.List.{List, ◌++◌}
+use mathlib.Core.Path.{◌≡◌, sym, ap, ◌∙◌}
+use lib.ListN.{length, drop, replicate, length-append, length-take, length-drop, length-replicate, get_or-append, get_or-replicate, get_or-eq_default}
+use lib.Seq.{get_or-append_right, get_or-take, get_or-drop}
+use Rattle.lists.specs.Lists.{part, table}
+use Rattle.lists.proofs.Cases.{order}
+use Rattle.lists.proofs.TableLaws.{as_table}
 use Rattle.image.specs.Words.{word_at}
 
 pub word_past : (image : List ℕ) (k : ℕ) → length image ≤ k → word_at image k ≡ 0
@@ -17,33 +18,20 @@ word_past image k h = get_or-eq_default image 0 h
 pub row_small : (r width : ℕ) → width < 17 → r * width ≤ r * 16
 row_small r width h = let m : width ≤ 16 = omega arith in mul-le-mul_left r m
 
--- ---- the words of a field row, read one by one: the first k are in their places
+-- ---- `n` words from word `at` on, those past the end being 0
 
-pub record Reading (image : List ℕ) (at : ℕ) (row : List ℕ) (k : ℕ) : Type 0 where
-  pub few : k ≤ 16
-  pub size : length row ≡ 16
-  pub words : take k row ≡ table k (λ i. word_at image (at + i))
+module _ (ws : List ℕ) (at n : ℕ) where
+  -- how many of them there are
+  there_few : length (part at n ws) ≡ min n (length ws - at)
+  there_few = length-take n (drop at ws) ∙ ap (min n) (length-drop at ws)
 
-pub reading_start : (image : List ℕ) (at : ℕ) (row : List ℕ) → length row ≡ 16 → Reading image at row 0
-unfolding table
-reading_start image at row size = record { few = omega arith; size = size; words = refl }
-
-module _ {image : List ℕ} {at : ℕ} {row : List ℕ} {k : ℕ} (h : Reading image at row k) where
-  pub reading_more : (v : ℕ) → k < 16 → v ≡ word_at image (at + k) → Reading image at (set row k v) (k + 1)
-  reading_more v l e =
-      record {
-        few = omega arith;
-        size = length-set row k v ∙ h.size;
-        words = table_more row k v (λ i. word_at image (at + i)) (omega (arith, h.size)) h.words e;
-      }
-
-  pub reading_end : 16 ≤ k → row ≡ table 16 (λ i. word_at image (at + i))
-  reading_end l =
-      let e : k ≡ 16 = omega (arith, h.few) in
-      sym (take_all k row (omega (arith, h.size))) ∙ h.words ∙ ap (λ (n : ℕ). table n (λ i. word_at image (at + i))) e
-
--- a row past the end
-pub row_past : (image : List ℕ) (at : ℕ) → length image ≤ at → replicate 16 0 ≡ table 16 (λ i. word_at image (at + i))
-row_past image at h =
-    as_table (replicate 16 0) 16 (λ i. word_at image (at + i)) 0 (length-replicate {A = ℕ} 16 0)
-    (λ i l. get_or-replicate {A = ℕ} 16 i 0 0 l ∙ sym (word_past image (at + i) (omega arith)))
+  pub words_filled : part at n ws ++ drop (length (part at n ws)) (replicate n 0) ≡ table n (λ k. word_at ws (at + k))
+  words_filled =
+      let p = part at n ws in
+      let q : List ℕ = drop (length p) (replicate n 0) in
+      as_table (p ++ q) n (λ k. word_at ws (at + k)) 0
+      (omega (arith, length-append p q, length-drop {A = ℕ} (length p) (replicate n 0), length-replicate {A = ℕ} n 0, there_few))
+      (λ i l. order i (length p)
+      (λ m. get_or-append p q 0 i m ∙ get_or-take n (drop at ws) i 0 l ∙ get_or-drop at ws i 0)
+      (λ m. get_or-append_right p q i 0 m ∙ get_or-drop {A = ℕ} (length p) (replicate n 0) (i - length p) 0
+      ∙ get_or-replicate {A = ℕ} n (length p + (i - length p)) 0 0 (omega arith) ∙ sym (word_past ws (at + i) (omega (arith, there_few)))))

@@ -24,13 +24,6 @@ use Rattle.image.specs.declared.fields.Keys.{Keys}
 use Rattle.image.specs.declared.rows.Range.{Range}
 use Rattle.image.specs.declared.rows.Sections.{Sections}
 
--- ---- the keys of a field, each by its own equation
-
-pub keys_are : (f : FieldSays) {number name json : ℕ} → number ≡ f.number → name ≡ text_key f.name → json ≡ text_key (rule.json_name_of f)
-    → ◌≡◌ {A = Keys} (record { number = number; name = name; json = json }) (keys_of f)
-unfolding keys_of
-keys_are f p q r = rw (p, q, r)
-
 -- ---- one byte
 
 mark_left : (old mark : ℕ) → is_marked (mark_behind old mark) mark ≡ true

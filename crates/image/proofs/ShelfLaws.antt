@@ -17,7 +17,10 @@ use Rattle.image.specs.Schema.{schema_of}
 use Rattle.image.specs.Links.{message_link_width, enum_link_width, oneof_link_width}
 use Rattle.image.specs.Record.{all_link_words, field_link_width, says}
 use Rattle.image.specs.Shelf.{Shelf, shelf_of, end_word, record_start, image_length, pool_start, pool_length, last_file, before, record_tests, record_fits}
-use Rattle.image.specs.Places.{column, column_of, places_of, nowhere, chained}
+use Rattle.std.specs.Prelude.{Option, Some, None}
+use Rattle.image.specs.Places.{no_place, last_place, place_on, places_of, chained}
+use Rattle.image.specs.declared.shelf.Place.{Place}
+use Rattle.image.specs.declared.shelf.Places.{Places}
 use Rattle.image.specs.declared.rows.Sections.{Sections}
 
 -- ---- the tests of a record
@@ -102,68 +105,64 @@ pub chained_none : (s : Shelf) → chained 0 s ≡ eqb (length s.words) 0 && eqb
 unfolding chained
 chained_none s = refl
 
--- ---- the numbers of the files
+-- ---- the places of the files
 
-module _ (number : Shelf → ℕ) where
-  column_next : (n : ℕ) (s : Shelf) (f : ℕ) → column number (suc n) s f ≡ cond (eqb f n) (number s) (column number n (before s) f)
-  unfolding column
-  column_next n s f = refl
+place_next : (n : ℕ) (s : Shelf) (f : ℕ) → place_on (suc n) s f ≡ cond (eqb f n) (last_place s) (place_on n (before s) f)
+unfolding place_on
+place_next n s f = refl
 
-  pub column_last : (n : ℕ) (s : Shelf) → column number (suc n) s n ≡ number s
-  column_last n s = column_next n s n ∙ rw (eq-eqb n n refl)
+pub place_last : (n : ℕ) (s : Shelf) → place_on (suc n) s n ≡ last_place s
+place_last n s = place_next n s n ∙ rw (eq-eqb n n refl)
 
-  pub column-before : (n : ℕ) (s : Shelf) (f : ℕ) → f < n → column number (suc n) s f ≡ column number n (before s) f
-  column-before n s f h = column_next n s f ∙ rw (ne_eqb f n (λ e. omega arith))
+pub place-before : (n : ℕ) (s : Shelf) (f : ℕ) → f < n → place_on (suc n) s f ≡ place_on n (before s) f
+place-before n s f h = place_next n s f ∙ rw (ne_eqb f n (λ e. omega arith))
 
-  pub column_past : (n : ℕ) (s : Shelf) (f : ℕ) → n ≤ f → column number n s f ≡ 0
-  unfolding column
-  column_past zero s f h = refl
-  column_past (suc n) s f h = rw (ne_eqb f n (λ e. omega arith)) (column_past n (before s) f (omega arith))
+pub place_past : (n : ℕ) (s : Shelf) (f : ℕ) → n ≤ f → place_on n s f ≡ no_place
+unfolding place_on
+place_past zero s f h = refl
+place_past (suc n) s f h = rw (ne_eqb f n (λ e. omega arith)) (place_past n (before s) f (omega arith))
 
 -- ---- the walk back
 
--- one array: it has the numbers of the files from k on, and p is the shelf as it stood with k files
-pub record Kept (number : Shelf → ℕ) (n : ℕ) (s : Shelf) (k : ℕ) (p : Shelf) (l : List ℕ) : Type 0 where
+-- the array has the places of the files from k on, and p is the shelf as it stood with k files
+pub record Kept (n : ℕ) (s : Shelf) (k : ℕ) (p : Shelf) (l : List Place) : Type 0 where
   pub long : length l ≡ 32
-  pub seen : (f : ℕ) → k ≤ f → f < 32 → get_or l f 0 ≡ column number n s f
-  pub left : (f : ℕ) → f < k → column number n s f ≡ column number k p f
+  pub seen : (f : ℕ) → k ≤ f → f < 32 → get_or l f no_place ≡ place_on n s f
+  pub left : (f : ℕ) → f < k → place_on n s f ≡ place_on k p f
 
-module _ (number : Shelf → ℕ) (n : ℕ) (s : Shelf) where
-  pub kept_start : Kept number n s n s (replicate {A = ℕ} 32 0)
+module _ (n : ℕ) (s : Shelf) where
+  pub kept_start : Kept n s n s (replicate {A = Place} 32 no_place)
   kept_start =
       record {
-        long = length-replicate {A = ℕ} 32 0;
-        seen = λ f h l. get_or-replicate {A = ℕ} 32 f 0 0 l ∙ sym (column_past number n s f h);
+        long = length-replicate {A = Place} 32 no_place;
+        seen = λ f h l. get_or-replicate {A = Place} 32 f no_place no_place l ∙ sym (place_past n s f h);
         left = λ f h. refl;
       }
 
-  pub kept_step : (j : ℕ) (p q : Shelf) (l : List ℕ) (v : ℕ) → j < 32 → before p ≡ q → v ≡ number p → Kept number n s (suc j) p l → Kept number n s j q (set l j v)
+  pub kept_step : (j : ℕ) (p q : Shelf) (l : List Place) (v : Place) → j < 32 → before p ≡ q → v ≡ last_place p → Kept n s (suc j) p l → Kept n s j q (set l j v)
   kept_step j p q l v h eq ev t =
       record {
         long = length-set l j v ∙ t.long;
         seen = λ f m less. equal f j
-            (λ e. rw e (get_or-set_same l j v 0 (omega (arith, t.long)) ∙ ev ∙ sym (t.left j (omega arith) ∙ column_last number j p)))
-            (λ e. get_or-set_other l j f v 0 e ∙ t.seen f (omega arith) less);
-        left = λ f m. t.left f (omega arith) ∙ column-before number j p f m ∙ ap (λ (x : Shelf). column number j x f) eq;
+            (λ e. rw e (get_or-set_same l j v no_place (omega (arith, t.long)) ∙ ev ∙ sym (t.left j (omega arith) ∙ place_last j p)))
+            (λ e. get_or-set_other l j f v no_place e ∙ t.seen f (omega arith) less);
+        left = λ f m. t.left f (omega arith) ∙ place-before j p f m ∙ ap (λ (x : Shelf). place_on j x f) eq;
       }
 
-  pub kept_end : (p : Shelf) (l : List ℕ) → Kept number n s 0 p l → l ≡ column_of number n s
-  kept_end p l t = as_table l 32 (column number n s) 0 t.long (λ f h. t.seen f (omega arith) h)
+  pub kept_end : (p : Shelf) (l : List Place) → Kept n s 0 p l → record { files = l } ≡ places_of n s
+  kept_end p l t = ap (λ (x : List Place). record { files = x }) (as_table l 32 (place_on n s) no_place t.long (λ f h. t.seen f (omega arith) h))
 
 -- the files from k on, of n, have been seen, and what is left ends at word w and byte b
-pub record Walking (ws bs : List ℕ) (n : ℕ) (s : Shelf) (k w b : ℕ) (starts images pools lengths : List ℕ) : Type 0 where
+pub record Walking (ws bs : List ℕ) (n : ℕ) (s : Shelf) (k w b : ℕ) (files : List Place) : Type 0 where
   pub few : n ≤ 32
   pub at : k ≤ n
   pub words : w ≤ length ws
   pub bytes : b ≤ length bs
   pub chain : chained n s ≡ chained k (shelf_in ws bs w b)
-  pub in_starts : Kept record_start n s k (shelf_in ws bs w b) starts
-  pub in_images : Kept image_length n s k (shelf_in ws bs w b) images
-  pub in_pools : Kept pool_start n s k (shelf_in ws bs w b) pools
-  pub in_lengths : Kept pool_length n s k (shelf_in ws bs w b) lengths
+  pub kept : Kept n s k (shelf_in ws bs w b) files
 
 pub walking_start : (ws bs : List ℕ) (n w b : ℕ) → n ≤ 32 → w ≤ length ws → b ≤ length bs
-    → Walking ws bs n (shelf_in ws bs w b) n w b (replicate {A = ℕ} 32 0) (replicate {A = ℕ} 32 0) (replicate {A = ℕ} 32 0) (replicate {A = ℕ} 32 0)
+    → Walking ws bs n (shelf_in ws bs w b) n w b (replicate {A = Place} 32 no_place)
 walking_start ws bs n w b few hw hb =
     record {
       few = few;
@@ -171,22 +170,23 @@ walking_start ws bs n w b few hw hb =
       words = hw;
       bytes = hb;
       chain = refl;
-      in_starts = kept_start record_start n (shelf_in ws bs w b);
-      in_images = kept_start image_length n (shelf_in ws bs w b);
-      in_pools = kept_start pool_start n (shelf_in ws bs w b);
-      in_lengths = kept_start pool_length n (shelf_in ws bs w b);
+      kept = kept_start n (shelf_in ws bs w b);
     }
 
+-- what the walk answers
+abbrev pub walked : ℕ → Shelf → Option Places
+walked n s = cond (chained n s) (Some (places_of n s)) None
+
 -- where no places are answered
-pub stays_nowhere : (n : ℕ) (s : Shelf) → chained n s ≡ false → nowhere ≡ cond (chained n s) (places_of n s) nowhere
+pub stays_nowhere : (n : ℕ) (s : Shelf) → chained n s ≡ false → None ≡ walked n s
 stays_nowhere n s h = rw h
 
 module _ {ws bs : List ℕ} {n : ℕ} {s : Shelf} where
-  pub walking_step : {k w b : ℕ} {starts images pools lengths : List ℕ} → Walking ws bs n s k w b starts images pools lengths
+  pub walking_step : {k w b : ℕ} {files : List Place} → Walking ws bs n s k w b files
       → (j : ℕ) → k ≡ suc j → record_fits (shelf_in ws bs w b) ≡ true
       → {start image pool many : ℕ} → start ≡ end_word (take w ws) 0 → image ≡ end_word (take w ws) 1 → pool ≡ end_word (take w ws) 2 → many ≡ end_word (take w ws) 3
-      → Walking ws bs n s j start pool (set starts j start) (set images j image) (set pools j pool) (set lengths j many)
-  walking_step {k} {w} {b} {starts} {images} {pools} {lengths} t j e h {start} {image} {pool} {many} e0 e1 e2 e3 =
+      → Walking ws bs n s j start pool (set files j (record { start = start; image = image; pool = pool; length = many }))
+  walking_step {k} {w} {b} {files} t j e h {start} {image} {pool} {many} e0 e1 e2 e3 =
       let p : Shelf = shelf_in ws bs w b in
       let q : Shelf = shelf_in ws bs start pool in
       let back : before p ≡ q = before_in ws bs w b t.words t.bytes h ∙ rw (e0, e2) in
@@ -197,14 +197,11 @@ module _ {ws bs : List ℕ} {n : ℕ} {s : Shelf} where
         words = omega (arith, t.words, start_within ws bs w b t.words t.bytes h);
         bytes = omega (arith, t.bytes, pool-within ws bs w b t.words t.bytes h);
         chain = t.chain ∙ ap (λ (m : ℕ). chained m p) e ∙ chain_on j p h ∙ ap (chained j) back;
-        in_starts = kept_step record_start n s j p q starts start less back e0 (rw e at t.in_starts);
-        in_images = kept_step image_length n s j p q images image less back e1 (rw e at t.in_images);
-        in_pools = kept_step pool_start n s j p q pools pool less back e2 (rw e at t.in_pools);
-        in_lengths = kept_step pool_length n s j p q lengths many less back e3 (rw e at t.in_lengths);
+        kept = kept_step n s j p q files (record { start = start; image = image; pool = pool; length = many }) less back (rw (e0, e1, e2, e3)) (rw e at t.kept);
       }
 
-  module _ {k w b : ℕ} {starts images pools lengths : List ℕ} (t : Walking ws bs n s k w b starts images pools lengths) where
-    pub walking_fails : (j : ℕ) → k ≡ suc j → record_fits (shelf_in ws bs w b) ≡ false → nowhere ≡ cond (chained n s) (places_of n s) nowhere
+  module _ {k w b : ℕ} {files : List Place} (t : Walking ws bs n s k w b files) where
+    pub walking_fails : (j : ℕ) → k ≡ suc j → record_fits (shelf_in ws bs w b) ≡ false → None ≡ walked n s
     walking_fails j e h = stays_nowhere n s (t.chain ∙ ap (λ (m : ℕ). chained m (shelf_in ws bs w b)) e ∙ chain_stop j (shelf_in ws bs w b) h)
 
     ends : k ≡ 0 → chained n s ≡ eqb w 0 && eqb b 0
@@ -212,20 +209,13 @@ module _ {ws bs : List ℕ} {n : ℕ} {s : Shelf} where
         t.chain ∙ ap (λ (m : ℕ). chained m (shelf_in ws bs w b)) e ∙ chained_none (shelf_in ws bs w b)
         ∙ rw (length-take-le w ws t.words, length-take-le b bs t.bytes)
 
-    pub walking_words : k ≡ 0 → (w ≡ 0 → ⊥) → nowhere ≡ cond (chained n s) (places_of n s) nowhere
+    pub walking_words : k ≡ 0 → (w ≡ 0 → ⊥) → None ≡ walked n s
     walking_words e h = stays_nowhere n s (ends e ∙ rw (ne_eqb w 0 h))
 
-    pub walking_bytes : k ≡ 0 → (b ≡ 0 → ⊥) → nowhere ≡ cond (chained n s) (places_of n s) nowhere
+    pub walking_bytes : k ≡ 0 → (b ≡ 0 → ⊥) → None ≡ walked n s
     walking_bytes e h = stays_nowhere n s (ends e ∙ rw (ne_eqb b 0 h) (and-false (eqb w 0)))
 
-    pub walking_end : k ≡ 0 → w ≡ 0 → b ≡ 0
-        → record { whole = true; starts = starts; images = images; pools = pools; lengths = lengths } ≡ cond (chained n s) (places_of n s) nowhere
+    pub walking_end : k ≡ 0 → w ≡ 0 → b ≡ 0 → Some (record { files = files }) ≡ walked n s
     walking_end e ew eb =
         let all : chained n s ≡ true = ends e ∙ rw (eq-eqb w 0 ew, eq-eqb b 0 eb) in
-        rw (
-          all,
-          kept_end record_start n s (shelf_in ws bs w b) starts (rw e at t.in_starts),
-          kept_end image_length n s (shelf_in ws bs w b) images (rw e at t.in_images),
-          kept_end pool_start n s (shelf_in ws bs w b) pools (rw e at t.in_pools),
-          kept_end pool_length n s (shelf_in ws bs w b) lengths (rw e at t.in_lengths),
-        )
+        rw all (ap (λ (x : Places). Some x) (kept_end n s (shelf_in ws bs w b) files (rw e at t.kept)))

@@ -1,6 +1,6 @@
 -- Lengths of names: a text of an image is shorter than 2^32 bytes, since its length is one word, so that the lengths of a full name's parts
 -- can be added. Assumes nothing.
-use mathlib.Core.Path.{◌≡◌, refl, ap, ◌∙◌}
+use mathlib.Core.Path.{◌≡◌, ap, ◌∙◌}
 use mathlib.Core.Bool.{Bool, true, false}
 use mathlib.Core.List.{List}
 use Prim.Native.Nat.{ℕ, zero, suc, ◌+◌, ◌*◌, ◌<◌, ◌≤◌}
@@ -46,15 +46,6 @@ module _ (image : List ℕ) (s : Sections) (pool : List ℕ) (words : (k : ℕ) 
   pub levels_short : (links : List ℕ) (levels a : ℕ) → length (message_above (schema_in image s pool) links levels a) ≤ 4294967296 * levels
   levels_short links levels a =
       above_short (name_of (schema_in image s pool) links) (message_up links) (λ m. name_short _) levels a
-
--- how many messages and enums there are
-pub messages_are : (image : List ℕ) (s : Sections) (pool : List ℕ) → (schema_in image s pool).messages ≡ s.messages.count
-unfolding schema_in
-messages_are image s pool = refl
-
-pub enums_are : (image : List ℕ) (s : Sections) (pool : List ℕ) → (schema_in image s pool).enums ≡ s.enums.count
-unfolding schema_in
-enums_are image s pool = refl
 
 pub joined_short : (s t : List ℕ) → joined_length (length s) (length t) ≤ length s + 1 + length t
 joined_short s t = omega (arith, concat-length s t, joined_le s t)

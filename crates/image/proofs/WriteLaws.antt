@@ -9,9 +9,8 @@ use Rattle.lists.specs.Splice.{fronted}
 use Rattle.lists.proofs.SpliceLaws.{splice_front, fronted_fits, length-fronted}
 use Rattle.names.specs.Answers.{front_answer}
 use Rattle.names.specs.Package.{concat_paths}
-use Rattle.names.specs.declared.name.Fronted.{Fronted}
+use Rattle.std.specs.Prelude.{Option, unwrap_or}
 use Rattle.names.proofs.PackageLaws.{front_fits}
-use Rattle.image.specs.Climb.{written_length}
 
 pub concat_le : (l t : List ℕ) → 0 < length t → length l ≤ length (concat_paths l t)
 unfolding concat_paths
@@ -38,7 +37,7 @@ fronted_over d l w h room =
 
 -- l was written to the front of d, which has room for l joined with t, and is then joined with t
 module _ (d l t : List ℕ) (some : 0 < length t) (room : length (concat_paths l t) ≤ length d)
-    {after : List ℕ} {answer : Fronted} {n : ℕ} (e : after ≡ fronted d l) (f : answer ≡ front_answer d l) (w : n ≡ written_length answer)
+    {after : List ℕ} {answer : Option ℕ} {n : ℕ} (e : after ≡ fronted d l) (f : answer ≡ front_answer d l) (w : n ≡ unwrap_or answer 0)
   where
     fits : length l ≤ length d
     fits = omega (arith, concat_le l t some)

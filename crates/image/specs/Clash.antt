@@ -1,14 +1,12 @@
 -- Rule 17, of one message row, and the lookups of regular fields: by number, by own name, by own or JSON name. What they answer is the
 -- field's place in its message; its flat number is that of the message's first field plus this place. Rows owned as extensions take no part.
 -- Assumes nothing.
-use Rattle.std.specs.Prelude.{List, Bool, cond, ◌||◌, ℕ, eqb, ltb}
-use Rattle.lists.specs.Below.{any_below, first_below}
+use Rattle.std.specs.Prelude.{List, Bool, cond, ◌||◌, ℕ, eqb, Option}
+use Rattle.lists.specs.Below.{any_below, first_below, found_below}
 use Rattle.lists.specs.Lists.{same, is_empty}
 use Rattle.names.specs.Json.{derived_json_name}
 use Rattle.image.specs.Schema.{Schema, FieldSays}
 use Rattle.image.specs.Members.{regular}
-use Rattle.image.specs.declared.rows.Found.{Found}
-use Rattle.image.specs.declared.rows.Found.TheVariants.{At, Nothing}
 
 -- the JSON name of a field: as given, or derived where none is given, perhaps as empty
 unfoldable pub json_name_of : FieldSays → List ℕ
@@ -29,29 +27,25 @@ unfoldable pub clashes_earlier : Schema → ℕ → ℕ → Bool
 unfolding any_below clash
 clashes_earlier g r j = any_below j (λ i. clash (regular g r j) (regular g r i))
 
--- a place below n, or none
-abbrev pub found_below : ℕ → ℕ → Found
-found_below n k = cond (ltb k n) (At k) Nothing
-
 -- the place in its message of the first field with p
-abbrev pub first_regular : Schema → ℕ → (ℕ → Bool) → Found
+abbrev pub first_regular : Schema → ℕ → (ℕ → Bool) → Option ℕ
 first_regular g r p = found_below (g.fields_in r).count (first_below (g.fields_in r).count p (g.fields_in r).count)
 
 -- the first field that clashes with an earlier one
-unfoldable pub first_clash : Schema → ℕ → Found
+unfoldable pub first_clash : Schema → ℕ → Option ℕ
 unfolding clashes_earlier first_below
 first_clash g r = first_regular g r (clashes_earlier g r)
 
 -- ---- lookups
 
-unfoldable pub field_by_number : Schema → ℕ → ℕ → Found
+unfoldable pub field_by_number : Schema → ℕ → ℕ → Option ℕ
 unfolding first_below
 field_by_number g r number = first_regular g r (λ j. eqb (regular g r j).number number)
 
-unfoldable pub field_by_name : Schema → ℕ → List ℕ → Found
+unfoldable pub field_by_name : Schema → ℕ → List ℕ → Option ℕ
 unfolding first_below
 field_by_name g r text = first_regular g r (λ j. same (regular g r j).name text)
 
-unfoldable pub field_by_name_or_json : Schema → ℕ → List ℕ → Found
+unfoldable pub field_by_name_or_json : Schema → ℕ → List ℕ → Option ℕ
 unfolding first_below is_called
 field_by_name_or_json g r text = first_regular g r (λ j. is_called (regular g r j) text)

@@ -3,8 +3,6 @@
 use Rattle.std.specs.Prelude.{List, [], Bool, cond, ◌&&◌, ◌||◌, ℕ, zero, suc, ◌+◌, ◌-◌, eqb, leb, length, get_or}
 use Rattle.lists.specs.Lists.{is_empty}
 use Rattle.names.specs.Package.{concat_paths}
-use Rattle.names.specs.declared.name.Fronted.{Fronted}
-use Rattle.names.specs.declared.name.Fronted.TheVariants.{Written, TooShort}
 use Rattle.image.specs.Schema.{Schema}
 use Rattle.image.specs.Links.{message_row, message_up}
 use Rattle.image.specs.FullName.{inside, path}
@@ -44,8 +42,3 @@ joined_length first second = cond (eqb second 0) 0 (cond (eqb first 0) second (f
 unfoldable pub lead : List ℕ → List ℕ → List ℕ
 unfolding is_empty concat_paths
 lead «package» front = cond (is_empty front) «package» (concat_paths «package» front)
-
--- how much was written
-abbrev pub written_length : Fronted → ℕ
-written_length (Written n) = n
-written_length TooShort = 0

@@ -1,5 +1,5 @@
 -- What one image alone says: refusals 3, 4 and 5, and, where it draws none of these, 8 to 11 and its link rows. Assumes nothing.
-use Rattle.std.specs.Prelude.{List, [], ◌∷◌, Bool, not, cond, ◌||◌, ℕ, length}
+use Rattle.std.specs.Prelude.{List, [], ◌∷◌, Bool, not, cond, ◌||◌, ℕ, length, Result}
 use Rattle.lists.specs.Splice.{fronted}
 use Rattle.image.specs.Layout.{laid_out_within_limit}
 use Rattle.image.specs.Texts.{texts_right}
@@ -8,12 +8,10 @@ use Rattle.image.specs.Schema.{Schema, schema_in}
 use Rattle.image.specs.Links.{links_of, message_row}
 use Rattle.image.specs.FullName.{full_names_short, shares_name}
 use Rattle.image.specs.MapEntry.{entry_lines}
-use Rattle.image.specs.Verdict.{Line, line, first, in_order, passes}
+use Rattle.image.specs.Verdict.{Verdict, judged, Line, line, first, in_order, passes}
 use Rattle.image.specs.declared.verdict.Refusal.TheVariants.{LayoutBroken, LimitPassed, TextWrong, NameShared}
-use Rattle.image.specs.declared.verdict.Verdict.{Verdict}
-use Rattle.image.specs.declared.verdict.Verdict.TheVariants.{Passed}
+use Rattle.image.specs.declared.verdict.Refused.{Refused}
 use Rattle.image.specs.declared.rows.Sections.{Sections}
-use Rattle.image.specs.declared.judge.Judged.{Judged}
 
 -- 3, 4 and 5. The line of 3 answers also for an image longer than 65,536 words, which 1 has refused before. `full` says that 32 files
 -- are shelved, which draws 4 whatever else an image says that obeys 3
@@ -38,9 +36,9 @@ unfoldable pub opening : List ℕ → List ℕ → Bool → Verdict
 unfolding opening_lines first
 opening image pool full = first (opening_lines image pool full)
 
--- both verdicts, where that of 3, 4 and 5 is v; nothing is said of 8 to 11 where v is a refusal
-abbrev pub judged_by : Verdict → Schema → Judged
-judged_by v g = record { opening = v; naming = cond (passes v) (first (naming_lines g (links_of g))) Passed }
+-- both verdicts, where that of 3, 4 and 5 is given: its refusal, or the verdict of 8 to 11
+abbrev pub judged_by : Verdict → Schema → Result Verdict Refused
+judged_by v g = judged v (first (naming_lines g (links_of g)))
 
 -- what stands in `links` afterwards: the link rows in front, if v is no refusal and there is room for them
 abbrev pub links_by : Verdict → Schema → List ℕ → List ℕ

@@ -42,7 +42,6 @@ trailer_tests image pool k =
     ∷ []
 
 unfoldable pub trailer_fits : List ℕ → ℕ → ℕ → Bool
-unfolding all_of
 trailer_fits image pool k = all_of (trailer_tests image pool k)
 
 -- the section of a kind starts where that of another ends
@@ -63,7 +62,6 @@ section_tests image s =
     ∷ []
 
 unfoldable pub sections_follow : List ℕ → Sections → Bool
-unfolding all_of
 sections_follow image s = all_of (section_tests image s)
 
 -- the rows that the file owns itself: top-level messages and enums, which come first in their sections, and its extensions
@@ -75,7 +73,6 @@ file_tests image s =
     ∷ []
 
 unfoldable pub file_ranges_fit : List ℕ → Sections → Bool
-unfolding all_of
 file_ranges_fit image s = all_of (file_tests image s)
 
 abbrev pub frame_tests : List ℕ → ℕ → Sections → List Bool
@@ -87,7 +84,6 @@ frame_tests image pool s =
     ∷ []
 
 unfoldable pub frame_fits : List ℕ → ℕ → Sections → Bool
-unfolding all_of
 frame_fits image pool s = all_of (frame_tests image pool s)
 
 -- ---- rows
@@ -139,7 +135,6 @@ row_tests image s pool Oneof k = name_tests image pool k
 row_tests image s pool Field k = field_tests image pool k
 
 unfoldable pub row_fits : List ℕ → Sections → ℕ → Kind → ℕ → Bool
-unfolding all_of
 row_fits image s pool kind k = all_of (row_tests image s pool kind k)
 
 -- every row of a kind meets its own
@@ -193,7 +188,6 @@ rows_tests image pool s =
     ∷ []
 
 unfoldable pub all_rows_fit : List ℕ → ℕ → Sections → Bool
-unfolding all_of
 all_rows_fit image pool s = all_of (rows_tests image pool s)
 
 abbrev pub owner_tests : List ℕ → Sections → List Bool
@@ -207,7 +201,6 @@ owner_tests image s =
     ∷ []
 
 unfoldable pub all_owned : List ℕ → Sections → Bool
-unfolding all_of
 all_owned image s = all_of (owner_tests image s)
 
 unfoldable pub laid_out : List ℕ → ℕ → Bool

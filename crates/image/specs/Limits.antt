@@ -38,7 +38,6 @@ count_tests s =
     ∷ []
 
 unfoldable pub counts_within : Sections → Bool
-unfolding all_of
 counts_within s = all_of (count_tests s)
 
 -- ---- lengths of texts
@@ -77,7 +76,6 @@ field_lengths image pool k =
 
 -- the texts of a row of each kind that starts at word k
 unfoldable pub row_texts_short : List ℕ → List ℕ → Kind → ℕ → Bool
-unfolding all_of
 row_texts_short image pool Import k = text_short image pool file_name_limit k
 row_texts_short image pool Message k = text_short image pool identifier_limit k
 row_texts_short image pool Enum k = text_short image pool identifier_limit k
@@ -102,7 +100,6 @@ length_tests image s pool =
     ∷ []
 
 unfoldable pub texts_short : List ℕ → Sections → List ℕ → Bool
-unfolding all_of
 texts_short image s pool = all_of (length_tests image s pool)
 
 -- ---- the whole rule
@@ -116,5 +113,4 @@ limit_tests image s pool =
     ∷ []
 
 unfoldable pub within_limits : List ℕ → List ℕ → Bool
-unfolding all_of
 within_limits image pool = all_of (limit_tests image (sections_of image) pool)

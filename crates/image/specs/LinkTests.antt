@@ -72,7 +72,6 @@ field_link_tests files pool row container l =
     ∷ []
 
 unfoldable pub field_link_fits : List File → ℕ → ℕ → ℕ → FieldLink → Bool
-unfolding all_of
 field_link_fits files pool row container l = all_of (field_link_tests files pool row container l)
 
 -- the link row of every field
@@ -130,5 +129,4 @@ link_tests files file =
     ∷ []
 
 unfoldable pub links_fit : List File → File → Bool
-unfolding all_of
 links_fit files file = all_of (link_tests files file)

@@ -31,7 +31,6 @@ bare_tests g r =
     ∷ []
 
 unfoldable pub is_bare : Schema → ℕ → Bool
-unfolding all_of
 is_bare g r = all_of (bare_tests g r)
 
 -- a field of that number and name, optional (label 1)
@@ -47,7 +46,7 @@ pair_tests g r =
     ∷ []
 
 unfoldable pub is_pair : Schema → ℕ → Bool
-unfolding all_of is_entry_field
+unfolding is_entry_field
 is_pair g r = all_of (pair_tests g r)
 
 -- the message on row r has the map-entry option

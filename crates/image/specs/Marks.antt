@@ -47,5 +47,4 @@ room_tests s n =
     ∷ []
 
 unfoldable pub rows_within : Sections → ℕ → Bool
-unfolding all_of
 rows_within s n = all_of (room_tests s n)

@@ -6,6 +6,7 @@ use Rattle.image.specs.Words.{word_at, trailer_at, top_messages, top_enums, sect
 use Rattle.image.specs.Texts.{text_of}
 use Rattle.image.specs.declared.rows.Range.{Range}
 use Rattle.image.specs.declared.rows.Sections.{Sections}
+use Rattle.image.specs.declared.schema.Image.{Image}
 use Rattle.image.specs.declared.rows.Kind.TheVariants.{Import, Message, Enum, Value, Field}
 
 -- a field row. Texts are lists of bytes; `oneof` is an index + 1, or 0; `given` and `optional` are 0 or 1; `default_start` is where the default
@@ -117,6 +118,11 @@ schema_in image s pool =
       field = λ r. field_of (field_row image s r) pool;
     }
 
+-- what an image says, with the sections that are told with it
+abbrev pub schema : Image → Schema
+schema image = schema_in image.rows.words.now image.rows.sections image.pool.now
+
+-- with the sections that its trailer tells
 unfoldable pub schema_of : List ℕ → List ℕ → Schema
 unfolding schema_in sections_of
 schema_of image pool = schema_in image (sections_of image) pool

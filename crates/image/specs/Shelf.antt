@@ -1,7 +1,7 @@
 -- Rule 2: the well-formed shelf. A shelf is the used part of two lent slices, read back from its end: a shelf of n + 1 files is a shelf of n
 -- files with one record and one pool behind it. What is unused never comes into it. Assumes nothing.
-use Rattle.std.specs.Prelude.{List, [], ◌∷◌, ◌++◌, Bool, true, false, not, ◌&&◌, ℕ, zero, suc, ◌+◌, ◌-◌, eqb, leb, length, take, get_or}
-use Rattle.lists.specs.Below.{all_below, first_below, all_of}
+use Rattle.std.specs.Prelude.{List, [], ◌∷◌, ◌++◌, Bool, not, Option, is_some, is_none, ◌&&◌, ℕ, zero, suc, ◌+◌, ◌-◌, eqb, leb, length, take, get_or}
+use Rattle.lists.specs.Below.{all_below, first_below, found_below, all_of}
 use Rattle.lists.specs.Lists.{same}
 use Rattle.image.specs.Words.{word_at}
 use Rattle.image.specs.Layout.{laid_out}
@@ -12,11 +12,9 @@ use Rattle.image.specs.Links.{links_of}
 use Rattle.image.specs.FullName.{shares_name}
 use Rattle.image.specs.Verdict.{first, passes}
 use Rattle.image.specs.Judge.{map_entry_lines}
-use Rattle.image.specs.Clash.{first_clash, found_below}
+use Rattle.image.specs.Clash.{first_clash}
 use Rattle.image.specs.Record.{File, no_file, says, file_at, all_link_words, end_width, record_words}
 use Rattle.image.specs.LinkTests.{links_fit}
-use Rattle.image.specs.declared.rows.Found.{Found}
-use Rattle.image.specs.declared.rows.Found.TheVariants.{At, Nothing}
 use Rattle.image.specs.declared.shelf.Used.{Used}
 
 -- the used words and bytes
@@ -66,20 +64,15 @@ record_tests s =
     ∷ []
 
 unfoldable pub record_fits : Shelf → Bool
-unfolding all_of end_word
+unfolding end_word
 record_fits s = all_of (record_tests s)
 
 -- ---- its file
 
--- nothing was found
-abbrev pub is_nothing : Found → Bool
-is_nothing Nothing = true
-is_nothing (At k) = false
-
 -- no regular field of any message clashes with an earlier one
 unfoldable pub clash_free : Schema → Bool
 unfolding all_below first_clash
-clash_free g = all_below g.messages (λ r. is_nothing (first_clash g r))
+clash_free g = all_below g.messages (λ r. is_none (first_clash g r))
 
 -- the image obeys 3, 4 (shelved files aside), 5, 8, 9 to 11 and 17. Rule 4's counts keep it below 65,536 words; its pool may be longer than
 -- 32,768 bytes, which is a limit of lent slices
@@ -94,22 +87,21 @@ image_tests image pool =
     ∷ []
 
 unfoldable pub image_obeys : List ℕ → List ℕ → Bool
-unfolding all_of
 image_obeys image pool = all_of (image_tests image pool)
 
 -- the first file of that name
-unfoldable pub file_named : List File → List ℕ → Found
+unfoldable pub file_named : List File → List ℕ → Option ℕ
 unfolding first_below
 file_named files name =
     found_below (length files) (first_below (length files) (λ f. same (says (get_or files f no_file)).file_name name) (length files))
 
 -- no earlier file has its name, and each import names an earlier file
 abbrev pub is_fresh : List File → File → Bool
-is_fresh earlier file = is_nothing (file_named earlier (says file).file_name)
+is_fresh earlier file = is_none (file_named earlier (says file).file_name)
 
 unfoldable pub imports_named : List File → File → Bool
 unfolding all_below
-imports_named earlier file = all_below (says file).imports (λ i. not (is_nothing (file_named earlier ((says file).import_name i))))
+imports_named earlier file = all_below (says file).imports (λ i. is_some (file_named earlier ((says file).import_name i)))
 
 -- a file behind the files `earlier`
 abbrev pub shelved_tests : List File → File → List Bool
@@ -121,7 +113,6 @@ shelved_tests earlier file =
     ∷ []
 
 unfoldable pub file_fits : List File → File → Bool
-unfolding all_of
 file_fits earlier file = all_of (shelved_tests earlier file)
 
 -- ---- all files
@@ -134,7 +125,7 @@ files_of (suc n) s = files_of n (before s) ++ (last_file s ∷ [])
 
 -- the last record and its file are in order, and so is the shelf before them; nothing is left in front of the first
 unfoldable pub shelved : ℕ → Shelf → Bool
-unfolding all_of end_word
+unfolding end_word
 shelved zero s = eqb (length s.words) 0 && eqb (length s.bytes) 0
 shelved (suc n) s = all_of (record_fits s ∷ file_fits (files_of n (before s)) (last_file s) ∷ shelved n (before s) ∷ [])
 
@@ -160,7 +151,6 @@ shelf_tests words bytes used =
     ∷ []
 
 unfoldable pub well_formed : List ℕ → List ℕ → Used → Bool
-unfolding all_of
 well_formed words bytes used = all_of (shelf_tests words bytes used)
 
 -- the three numbers behind one more file

@@ -42,7 +42,6 @@ field_texts image pool k =
 
 -- the texts of a row of each kind that starts at word k
 unfoldable pub row_texts_right : List ℕ → List ℕ → Kind → ℕ → Bool
-unfolding all_of
 row_texts_right image pool Import k = is_file_name (text_of image pool k)
 row_texts_right image pool Message k = is_identifier (text_of image pool k)
 row_texts_right image pool Enum k = is_identifier (text_of image pool k)

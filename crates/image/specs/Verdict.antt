@@ -1,9 +1,8 @@
 -- Refusals as lines of a table: the first line that is given decides. Assumes nothing.
-use Rattle.std.specs.Prelude.{List, [], ◌∷◌, ◌++◌, Bool, true, false, cond, ℕ, zero, suc}
+use Rattle.std.specs.Prelude.{List, [], ◌∷◌, ◌++◌, Bool, true, false, cond, ℕ, zero, suc, Result, Ok, Err}
 use Rattle.image.specs.declared.verdict.Refusal.{Refusal}
 use Rattle.image.specs.declared.verdict.Refusal.TheVariants.{TooLong, ShelfBroken, LayoutBroken, LimitPassed, TextWrong, NameTaken, ImportMissing, NameShared, EntryName, EntryNotBare, EntryFields, DefaultWrong, DefaultBarred, ExtendeeAbsent, MessageMissing, EnumMissing, FieldClash, NoRoom}
-use Rattle.image.specs.declared.verdict.Verdict.{Verdict}
-use Rattle.image.specs.declared.verdict.Verdict.TheVariants.{Passed, Stopped}
+use Rattle.image.specs.declared.verdict.Refused.{Refused}
 
 -- the number of each refusal
 abbrev pub number : Refusal → ℕ
@@ -35,10 +34,18 @@ pub record Line : Type 0 where
 abbrev pub line : Refusal → Bool → ℕ → Line
 line r b p = record { refusal = r; given = b; place = p }
 
+-- no refusal, or the first that was given, with its place
+abbrev pub Verdict : Type 0
+Verdict = Result Unit Refused
+
+-- a refusal at a place
+abbrev pub stopped : Refusal → ℕ → Verdict
+stopped r p = Err (record { refusal = r; place = p })
+
 -- the first line that is given
 unfoldable pub first : List Line → Verdict
-first [] = Passed
-first (l ∷ ls) = cond l.given (Stopped l.refusal l.place) (first ls)
+first [] = Ok tt
+first (l ∷ ls) = cond l.given (stopped l.refusal l.place) (first ls)
 
 -- the lines of 0, 1, .., of which there are n
 unfoldable pub in_order : ℕ → (ℕ → List Line) → List Line
@@ -47,5 +54,10 @@ in_order (suc n) f = in_order n f ++ f n
 
 -- no refusal
 abbrev pub passes : Verdict → Bool
-passes Passed = true
-passes (Stopped r p) = false
+passes (Ok u) = true
+passes (Err r) = false
+
+-- the answer of a step: the refusal, or else x
+abbrev pub judged : {A : Type 0} → Verdict → A → Result A Refused
+judged (Ok u) x = Ok x
+judged (Err r) x = Err r

@@ -2,14 +2,15 @@
 ghost use Rattle.std.specs.Prelude.{◌≡◌, ◌+◌, ◌*◌, ◌≤◌, ◌<◌, ◌^◌, length};
 ghost use Rattle.lists.specs.Lists.{span, all, concat_map};
 ghost use Rattle.lists.specs.Splice.{splice};
-ghost use Rattle.image.specs.Schema.{schema_in};
+ghost use Rattle.image.specs.Schema.{schema};
 ghost use Rattle.image.specs.Flat.{rows_of, flat_fields, first_field, walked, tally_at, within, shallow};
 ghost use Rattle.image.specs.Record.{repeated, containers_in, containers};
 ghost use Rattle.image.specs.Laid.{LaidOut, Sound};
 ghost use Rattle.image.specs.Links.{message_link_width, enum_link_width, message_links, enum_links, oneof_links, links_of, link_words};
 ghost use Rattle.image.specs.Walk.{tallied, InWords, Entering, Indexed, enum_part, field_part, enum_links_at, oneof_links_at};
 
-use crate::rows::{Flat, Range, Row, Sections};
+use crate::rows::{Flat, Range, Row};
+use crate::schema::Image;
 use crate::{links, rows};
 
 // The next free flat numbers, which each step of the walk takes and hands on.
@@ -29,9 +30,7 @@ impl Tally {
     {
         Tally {
             messages: self.messages + 1,
-            enums: self.enums,
-            oneofs: self.oneofs,
-            fields: self.fields,
+            ..self
         }
     }
 
@@ -41,10 +40,8 @@ impl Tally {
         ensures { result ≡ record { messages = self.messages; enums = self.enums + n; oneofs = self.oneofs; fields = self.fields } }
     {
         Tally {
-            messages: self.messages,
             enums: self.enums + n,
-            oneofs: self.oneofs,
-            fields: self.fields,
+            ..self
         }
     }
 
@@ -54,10 +51,8 @@ impl Tally {
         ensures { result ≡ record { messages = self.messages; enums = self.enums; oneofs = self.oneofs + n; fields = self.fields } }
     {
         Tally {
-            messages: self.messages,
-            enums: self.enums,
             oneofs: self.oneofs + n,
-            fields: self.fields,
+            ..self
         }
     }
 
@@ -67,23 +62,21 @@ impl Tally {
         ensures { result ≡ record { messages = self.messages; enums = self.enums; oneofs = self.oneofs; fields = self.fields + n } }
     {
         Tally {
-            messages: self.messages,
-            enums: self.enums,
-            oneofs: self.oneofs,
             fields: self.fields + n,
+            ..self
         }
     }
 }
 
 // The tally behind a message and what it owns.
-fn tally_behind(image: &[u32], s: Sections, pool: &[u8], row: Row, t: Tally) -> Tally
-    requires { InWords (tallied (schema_in image.now s pool.now) t row.0) }
-    ensures { result ≡ tallied (schema_in image.now s pool.now) t row.0 }
+fn tally_behind(image: &Image, row: Row, t: Tally) -> Tally
+    requires { InWords (tallied (schema image.now) t row.0) }
+    ensures { result ≡ tallied (schema image.now) t row.0 }
 {
-    let enums = rows::enums_of(image, s, row);
-    let oneofs = rows::oneofs_of(image, s, row);
-    let fields = rows::fields_of(image, s, row);
-    let extensions = rows::extensions_of(image, s, row);
+    let enums = image.rows.enums_of(row);
+    let oneofs = image.rows.oneofs_of(row);
+    let fields = image.rows.fields_of(row);
+    let extensions = image.rows.extensions_of(row);
     let u = t
         .take_message()
         .take_enums(enums.count)
@@ -94,151 +87,133 @@ fn tally_behind(image: &[u32], s: Sections, pool: &[u8], row: Row, t: Tally) -> 
 // Numbers the messages of a range and all below them, each before its nested ones, and writes the link row of each at its number.
 // `outside` is the enclosing word of the range, and `depth` says how many levels are left.
 fn index_messages_and_inners(
-    image: &[u32],
-    s: Sections,
-    pool: &[u8],
+    image: &Image,
     g: Range,
     outside: u32,
     depth: u32,
     links: &mut [u32],
     t: Tally,
 ) -> Tally
-    requires entering { Entering (schema_in image.now s pool.now) g.first g.count outside depth t }
-    requires message_link_width_in_bounds { (schema_in image.now s pool.now).messages * message_link_width ≤ length links.old }
-    ensures value { result ≡ tally_at (schema_in image.now s pool.now) (t.messages + length (walked depth (schema_in image.now s pool.now) (span g.first g.count))) }
-    ensures links_after { links.new ≡ splice links.old (t.messages * message_link_width) (message_links (schema_in image.now s pool.now) t.messages (length (walked depth (schema_in image.now s pool.now) (span g.first g.count)))) }
+    requires entering { Entering (schema image.now) g.first g.count outside depth t }
+    requires message_link_width_in_bounds { (schema image.now).messages * message_link_width ≤ length links.old }
+    ensures value { result ≡ tally_at (schema image.now) (t.messages + length (walked depth (schema image.now) (span g.first g.count))) }
+    ensures links_after { links.new ≡ splice links.old (t.messages * message_link_width) (message_links (schema image.now) t.messages (length (walked depth (schema image.now) (span g.first g.count)))) }
 {
-    let first = g.first;
-    let count = g.count;
     let mut u = t;
-    let mut k: u32 = 0;
-    while k < count {
-        let row = Row(first + k);
+    for k in 0..g.count {
+        let row = Row(g.first + k);
         let me = Flat(u.messages);
-        let link = links::message_link(image, s, pool, row, outside, u);
+        let link = links::message_link(image, row, outside, u);
         links::put_words(links, me.0 as usize * links::MESSAGE_LINK, &link);
-        let v = tally_behind(image, s, pool, row, u);
-        let inner = rows::nested_messages(image, s, row);
-        u = index_messages_and_inners(image, s, pool, inner, me.0 + 1, depth - 1, links, v);
-        k += 1;
+        let v = tally_behind(image, row, u);
+        let inner = image.rows.nested_messages(row);
+        u = index_messages_and_inners(image, inner, me.0 + 1, depth - 1, links, v);
     }
     u
 }
 
 // The link rows of all messages, in flat order, at the front of `links`.
-fn index_messages(image: &[u32], s: Sections, pool: &[u8], links: &mut [u32])
-    requires sound { Sound (schema_in image.now s pool.now) }
-    requires message_link_width_in_bounds { (schema_in image.now s pool.now).messages * message_link_width ≤ length links.old }
-    ensures { links.new ≡ splice links.old 0 (message_links (schema_in image.now s pool.now) 0 (schema_in image.now s pool.now).messages) }
+fn index_messages(image: &Image, links: &mut [u32])
+    requires sound { Sound (schema image.now) }
+    requires message_link_width_in_bounds { (schema image.now).messages * message_link_width ≤ length links.old }
+    ensures { links.new ≡ splice links.old 0 (message_links (schema image.now) 0 (schema image.now).messages) }
 {
-    let count = rows::trailer_word(image, 18);
-    let enums = rows::trailer_word(image, 19);
+    let count = rows::trailer_word(image.rows.words, 18);
+    let enums = rows::trailer_word(image.rows.words, 19);
     let t = Tally {
         messages: 0,
         enums,
         oneofs: 0,
         fields: 0,
     };
-    index_messages_and_inners(image, s, pool, Range { first: 0, count }, 0, 16, links, t);
+    index_messages_and_inners(image, Range { first: 0, count }, 0, 16, links, t);
 }
 
 // The link rows of the enums of all messages, in flat order, from word `at` on, behind those of the file's own enums.
-fn link_inner_enums(image: &[u32], s: Sections, pool: &[u8], at: usize, links: &mut [u32])
-    requires sound { Sound (schema_in image.now s pool.now) }
-    requires indexed { Indexed (schema_in image.now s pool.now) links.old }
-    requires at_value { at ≡ enum_links_at (schema_in image.now s pool.now) 0 }
-    requires pool_in_bounds { enum_links_at (schema_in image.now s pool.now) (schema_in image.now s pool.now).messages ≤ length links.old }
-    ensures { links.new ≡ splice links.old at (concat_map (enum_part (schema_in image.now s pool.now)) (span 0 (schema_in image.now s pool.now).messages)) }
+fn link_inner_enums(image: &Image, at: usize, links: &mut [u32])
+    requires sound { Sound (schema image.now) }
+    requires indexed { Indexed (schema image.now) links.old }
+    requires at_value { at ≡ enum_links_at (schema image.now) 0 }
+    requires pool_in_bounds { enum_links_at (schema image.now) (schema image.now).messages ≤ length links.old }
+    ensures { links.new ≡ splice links.old at (concat_map (enum_part (schema image.now)) (span 0 (schema image.now).messages)) }
 {
-    let n = s.messages.count;
     let mut to = at;
-    let mut m: u32 = 0;
-    while m < n {
-        let g = rows::enums_of(image, s, links::message_row(links, Flat(m)));
+    for m in 0..image.rows.sections.messages.count {
+        let g = image.rows.enums_of(links::message_row(links, Flat(m)));
         links::put_enum_links(links, to, g, m + 1);
         to += g.count as usize * links::ENUM_LINK;
-        m += 1;
     }
 }
 
 // The link rows of all enums, in flat order, behind those of the messages.
-fn link_enums(image: &[u32], s: Sections, pool: &[u8], links: &mut [u32])
-    requires sound { Sound (schema_in image.now s pool.now) }
-    requires indexed { Indexed (schema_in image.now s pool.now) links.old }
-    requires enum_link_width_in_bounds { (schema_in image.now s pool.now).messages * message_link_width + (schema_in image.now s pool.now).enums * enum_link_width ≤ length links.old }
-    ensures { links.new ≡ splice links.old ((schema_in image.now s pool.now).messages * message_link_width) (enum_links (schema_in image.now s pool.now) (schema_in image.now s pool.now).messages) }
+fn link_enums(image: &Image, links: &mut [u32])
+    requires sound { Sound (schema image.now) }
+    requires indexed { Indexed (schema image.now) links.old }
+    requires enum_link_width_in_bounds { (schema image.now).messages * message_link_width + (schema image.now).enums * enum_link_width ≤ length links.old }
+    ensures { links.new ≡ splice links.old ((schema image.now).messages * message_link_width) (enum_links (schema image.now) (schema image.now).messages) }
 {
-    let at = s.messages.count as usize * links::MESSAGE_LINK;
-    let count = rows::trailer_word(image, 19);
+    let at = image.rows.sections.messages.count as usize * links::MESSAGE_LINK;
+    let count = rows::trailer_word(image.rows.words, 19);
     links::put_enum_links(links, at, Range { first: 0, count }, 0);
-    link_inner_enums(
-        image,
-        s,
-        pool,
-        at + count as usize * links::ENUM_LINK,
-        links,
-    );
+    link_inner_enums(image, at + count as usize * links::ENUM_LINK, links);
 }
 
 // The link rows of all oneofs, in flat order, behind those of the enums.
-fn link_oneofs(image: &[u32], s: Sections, pool: &[u8], links: &mut [u32])
-    requires sound { Sound (schema_in image.now s pool.now) }
-    requires indexed { Indexed (schema_in image.now s pool.now) links.old }
-    requires pool_in_bounds { link_words (schema_in image.now s pool.now) ≤ length links.old }
-    ensures { links.new ≡ splice links.old (oneof_links_at (schema_in image.now s pool.now) 0) (oneof_links (schema_in image.now s pool.now) (schema_in image.now s pool.now).messages) }
+fn link_oneofs(image: &Image, links: &mut [u32])
+    requires sound { Sound (schema image.now) }
+    requires indexed { Indexed (schema image.now) links.old }
+    requires pool_in_bounds { link_words (schema image.now) ≤ length links.old }
+    ensures { links.new ≡ splice links.old (oneof_links_at (schema image.now) 0) (oneof_links (schema image.now) (schema image.now).messages) }
 {
-    let n = s.messages.count;
-    let mut to = n as usize * links::MESSAGE_LINK + s.enums.count as usize * links::ENUM_LINK;
-    let mut m: u32 = 0;
-    while m < n {
+    let n = image.rows.sections.messages.count;
+    let e = image.rows.sections.enums.count;
+    let mut to = n as usize * links::MESSAGE_LINK + e as usize * links::ENUM_LINK;
+    for m in 0..n {
         let row = links::message_row(links, Flat(m));
-        let g = rows::oneofs_of(image, s, row);
-        links::put_oneof_links(image, s, pool, Flat(m), row, to, links);
+        let g = image.rows.oneofs_of(row);
+        links::put_oneof_links(image, Flat(m), row, to, links);
         to += g.count as usize * links::ONEOF_LINK;
-        m += 1;
     }
 }
 
 // The link rows that an image gives, at the front of `links`: messages, enums, oneofs.
-pub(crate) fn number(image: &[u32], s: Sections, pool: &[u8], links: &mut [u32])
-    requires sound { Sound (schema_in image.now s pool.now) }
-    requires pool_in_bounds { link_words (schema_in image.now s pool.now) ≤ length links.old }
-    ensures { links.new ≡ splice links.old 0 (links_of (schema_in image.now s pool.now)) }
+pub(crate) fn number(image: &Image, links: &mut [u32])
+    requires sound { Sound (schema image.now) }
+    requires pool_in_bounds { link_words (schema image.now) ≤ length links.old }
+    ensures { links.new ≡ splice links.old 0 (links_of (schema image.now)) }
 {
-    index_messages(image, s, pool, links);
-    link_enums(image, s, pool, links);
-    link_oneofs(image, s, pool, links);
+    index_messages(image, links);
+    link_enums(image, links);
+    link_oneofs(image, links);
 }
 
 // Whether the messages of a range, with all below them, are at most `depth` levels deep.
-fn levels_within(image: &[u32], s: Sections, pool: &[u8], g: Range, depth: u32) -> bool
-    requires laid_out { LaidOut (schema_in image.now s pool.now) }
-    requires count_bound { g.first + g.count ≤ s.messages.count }
-    ensures { result ≡ all (within depth (schema_in image.now s pool.now)) (span g.first g.count) }
+fn levels_within(image: &Image, g: Range, depth: u32) -> bool
+    requires laid_out { LaidOut (schema image.now) }
+    requires count_bound { g.first + g.count ≤ image.now.rows.sections.messages.count }
+    ensures { result ≡ all (within depth (schema image.now)) (span g.first g.count) }
 {
     if depth == 0 {
         return g.count == 0;
     }
-    let mut row = g.first;
-    let mut left = g.count;
-    while 0 < left {
-        let inner = rows::nested_messages(image, s, Row(row));
-        if !levels_within(image, s, pool, inner, depth - 1) {
+    // Read because a number behind a reference is known to fit its type only once it is read, and the range ends below this one.
+    let _messages = image.rows.sections.messages.count;
+    for k in 0..g.count {
+        let inner = image.rows.nested_messages(Row(g.first + k));
+        if !levels_within(image, inner, depth - 1) {
             return false;
         }
-        row += 1;
-        left -= 1;
     }
     true
 }
 
 // Whether no message is nested more than 16 levels deep, where the top level is 1. In an image that is laid out each row is seen once.
-pub(crate) fn is_shallow(image: &[u32], s: Sections, pool: &[u8]) -> bool
-    requires { LaidOut (schema_in image.now s pool.now) }
-    ensures { result ≡ shallow (schema_in image.now s pool.now) }
+pub(crate) fn is_shallow(image: &Image) -> bool
+    requires { LaidOut (schema image.now) }
+    ensures { result ≡ shallow (schema image.now) }
 {
-    let count = rows::trailer_word(image, 18);
-    levels_within(image, s, pool, Range { first: 0, count }, 16)
+    let count = rows::trailer_word(image.rows.words, 18);
+    levels_within(image, Range { first: 0, count }, 16)
 }
 
 // Lists a range of fields from place `at` on: their image rows, and for each the same containing word.
@@ -249,40 +224,32 @@ fn put_fields(homes: &mut [u32], holders: &mut [u32], at: usize, g: Range, conta
     ensures homes_after { homes.new ≡ splice homes.old at (rows_of g) }
     ensures holders_after { holders.new ≡ splice holders.old at (repeated g.count container) }
 {
-    let first = g.first;
-    let count = g.count;
-    let mut k: u32 = 0;
-    while k < count {
-        homes[at + k as usize] = first + k;
+    for k in 0..g.count {
+        homes[at + k as usize] = g.first + k;
         holders[at + k as usize] = container;
-        k += 1;
     }
 }
 
 // Lists the fields of all messages in flat order, and answers how many there are. `links` are the file's link rows.
 fn list_message_fields(
-    image: &[u32],
-    s: Sections,
-    pool: &[u8],
+    image: &Image,
     links: &[u32],
     homes: &mut [u32],
     holders: &mut [u32],
 ) -> usize
-    requires sound { Sound (schema_in image.now s pool.now) }
-    requires indexed { Indexed (schema_in image.now s pool.now) links.now }
-    requires pool_in_bounds { (schema_in image.now s pool.now).fields ≤ length homes.old }
-    requires pool_in_bounds_2 { (schema_in image.now s pool.now).fields ≤ length holders.old }
-    ensures value { result ≡ first_field (schema_in image.now s pool.now) (schema_in image.now s pool.now).messages }
-    ensures homes_after { homes.new ≡ splice homes.old 0 (concat_map (field_part (schema_in image.now s pool.now)) (span 0 (schema_in image.now s pool.now).messages)) }
-    ensures holders_after { holders.new ≡ splice holders.old 0 (concat_map (containers_in (schema_in image.now s pool.now)) (span 0 (schema_in image.now s pool.now).messages)) }
+    requires sound { Sound (schema image.now) }
+    requires indexed { Indexed (schema image.now) links.now }
+    requires pool_in_bounds { (schema image.now).fields ≤ length homes.old }
+    requires pool_in_bounds_2 { (schema image.now).fields ≤ length holders.old }
+    ensures value { result ≡ first_field (schema image.now) (schema image.now).messages }
+    ensures homes_after { homes.new ≡ splice homes.old 0 (concat_map (field_part (schema image.now)) (span 0 (schema image.now).messages)) }
+    ensures holders_after { holders.new ≡ splice holders.old 0 (concat_map (containers_in (schema image.now)) (span 0 (schema image.now).messages)) }
 {
-    let n = s.messages.count;
     let mut to: usize = 0;
-    let mut m: u32 = 0;
-    while m < n {
+    for m in 0..image.rows.sections.messages.count {
         let row = links::message_row(links, Flat(m));
-        let fields = rows::fields_of(image, s, row);
-        let extensions = rows::extensions_of(image, s, row);
+        let fields = image.rows.fields_of(row);
+        let extensions = image.rows.extensions_of(row);
         put_fields(homes, holders, to, fields, m + 1);
         put_fields(
             homes,
@@ -292,27 +259,20 @@ fn list_message_fields(
             m + 1,
         );
         to += fields.count as usize + extensions.count as usize;
-        m += 1;
     }
     to
 }
 
 // Lists all fields in flat order: the image row of each in `homes`, its containing word in `holders`.
-pub(crate) fn list_fields(
-    image: &[u32],
-    s: Sections,
-    pool: &[u8],
-    links: &[u32],
-    homes: &mut [u32],
-    holders: &mut [u32],
-)
-    requires sound { Sound (schema_in image.now s pool.now) }
-    requires links_value { links.now ≡ links_of (schema_in image.now s pool.now) }
-    requires pool_in_bounds { (schema_in image.now s pool.now).fields ≤ length homes.old }
-    requires pool_in_bounds_2 { (schema_in image.now s pool.now).fields ≤ length holders.old }
-    ensures homes_after { homes.new ≡ splice homes.old 0 (flat_fields (schema_in image.now s pool.now)) }
-    ensures holders_after { holders.new ≡ splice holders.old 0 (containers (schema_in image.now s pool.now)) }
+pub(crate) fn list_fields(image: &Image, links: &[u32], homes: &mut [u32], holders: &mut [u32])
+    requires sound { Sound (schema image.now) }
+    requires links_value { links.now ≡ links_of (schema image.now) }
+    requires pool_in_bounds { (schema image.now).fields ≤ length homes.old }
+    requires pool_in_bounds_2 { (schema image.now).fields ≤ length holders.old }
+    ensures homes_after { homes.new ≡ splice homes.old 0 (flat_fields (schema image.now)) }
+    ensures holders_after { holders.new ≡ splice holders.old 0 (containers (schema image.now)) }
 {
-    let at = list_message_fields(image, s, pool, links, homes, holders);
-    put_fields(homes, holders, at, rows::file_extensions(image), 0);
+    let at = list_message_fields(image, links, homes, holders);
+    let own = rows::file_extensions(image.rows.words);
+    put_fields(homes, holders, at, own, 0);
 }

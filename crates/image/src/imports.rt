@@ -1,27 +1,34 @@
 // The name of a file, and the names of the files that it imports.
 ghost use Rattle.std.specs.Prelude.{◌≡◌};
-ghost use Rattle.image.specs.Schema.{schema_in};
+ghost use Rattle.image.specs.Schema.{schema};
 
-use crate::rows::{Kind, Row, Sections};
-use crate::{rows, texts};
+use crate::rows;
+use crate::rows::{Kind, Row};
+use crate::schema::Image;
 
 // The file's own name.
-pub fn file_name<'a>(image: &[u32], s: Sections, pool: &'a [u8]) -> &'a [u8]
-    ensures { result.now ≡ (schema_in image.now s pool.now).file_name }
+#[tactic(auto, unfolding(crate::specs::Schema::schema_in, crate::specs::Words::trailer_at))]
+pub fn file_name<'a>(image: &Image<'a>) -> &'a [u8]
+    ensures { result.now ≡ (schema image.now).file_name }
 {
-    texts::text_of(image, pool, rows::trailer_at(image) + 1)
+    image.text_at(rows::trailer_at(image.rows.words) + 1)
 }
 
 // The name of the file that an import row imports.
-pub fn import_name<'a>(image: &[u32], s: Sections, pool: &'a [u8], row: Row) -> &'a [u8]
-    ensures { result.now ≡ (schema_in image.now s pool.now).import_name row.0 }
+#[tactic(auto, unfolding(crate::specs::Schema::schema_in))]
+pub fn import_name<'a>(image: &Image<'a>, row: Row) -> &'a [u8]
+    ensures { result.now ≡ (schema image.now).import_name row.0 }
 {
-    texts::text_of(image, pool, rows::row_at(s, Kind::Import, row))
+    image.name_of(Kind::Import, row)
 }
 
 // Whether an import row is public: its word 2, 0 or 1 in an image that is laid out.
-pub fn import_public(image: &[u32], s: Sections, pool: &[u8], row: Row) -> u32
-    ensures { result ≡ (schema_in image.now s pool.now).import_public row.0 }
+#[tactic(auto, unfolding(crate::specs::Schema::schema_in))]
+pub fn import_public(image: &Image, row: Row) -> u32
+    ensures { result ≡ (schema image.now).import_public row.0 }
 {
-    rows::word_at(image, rows::row_at(s, Kind::Import, row) + 2)
+    rows::word_at(
+        image.rows.words,
+        image.rows.sections.row_at(Kind::Import, row) + 2,
+    )
 }

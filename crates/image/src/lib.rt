@@ -17,6 +17,7 @@ pub mod map_entry;
 pub mod oneofs;
 mod owners;
 pub mod rows;
+pub mod schema;
 mod seen;
 pub mod shelf;
 mod siblings;

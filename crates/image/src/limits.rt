@@ -3,133 +3,92 @@ ghost use Rattle.std.specs.Prelude.{◌≡◌, ◌<◌, ◌^◌};
 ghost use Rattle.lists.specs.Below.{all_of};
 ghost use Rattle.image.specs.Limits.{counts_within, text_short, type_name_short, default_short, field_lengths, row_texts_short, kind_texts_short, texts_short};
 
-use crate::rows::{Kind, Row, Sections};
+use crate::rows::{Kind, Row, Sections, Start};
+use crate::schema::Image;
 use crate::{rows, texts};
 
 // Whether there are at most so many rows of each kind.
+#[tactic(auto, unfolding(crate::specs::Limits::counts_within))]
 pub fn counts_within(s: Sections) -> bool
     ensures { result ≡ counts_within s }
 {
-    if 32 < rows::count_of(s, Kind::Import) {
-        return false;
-    }
-    if 256 < rows::count_of(s, Kind::Message) {
-        return false;
-    }
-    if 256 < rows::count_of(s, Kind::Enum) {
-        return false;
-    }
-    if 4096 < rows::count_of(s, Kind::Value) {
-        return false;
-    }
-    if 256 < rows::count_of(s, Kind::Oneof) {
-        return false;
-    }
-    rows::count_of(s, Kind::Field) <= 2048
+    s.imports.count <= 32
+        && s.messages.count <= 256
+        && s.enums.count <= 256
+        && s.values.count <= 4096
+        && s.oneofs.count <= 256
+        && s.fields.count <= 2048
 }
 
 // Whether the text whose start and length stand at word `at` has at most `limit` bytes.
-fn text_short(image: &[u32], pool: &[u8], limit: usize, at: usize) -> bool
-    ensures { result ≡ text_short image.now pool.now limit at }
+fn text_short(image: &Image, limit: usize, at: usize) -> bool
+    ensures { result ≡ text_short image.now.rows.words.now image.now.pool.now limit at }
 {
-    let t = texts::text_of(image, pool, at);
-    t.len() <= limit
+    image.text_at(at).len() <= limit
 }
 
-fn type_name_short(image: &[u32], pool: &[u8], at: usize) -> bool
-    requires { at < 2 ^ 63 }
-    ensures { result ≡ type_name_short image.now pool.now at }
+#[tactic(auto, unfolding(crate::specs::Limits::type_name_short))]
+fn type_name_short(image: &Image, at: Start) -> bool
+    ensures { result ≡ type_name_short image.now.rows.words.now image.now.pool.now at.first }
 {
-    if !texts::needs_type_name(rows::word_at(image, at + 4)) {
-        return true;
-    }
-    text_short(image, pool, 512, at + 5)
+    !texts::needs_type_name(rows::word_at(image.rows.words, at.word(4)))
+        || text_short(image, 512, at.word(5))
 }
 
-fn default_short(image: &[u32], pool: &[u8], at: usize) -> bool
-    requires { at < 2 ^ 63 }
-    ensures { result ≡ default_short image.now pool.now at }
+#[tactic(auto, unfolding(crate::specs::Limits::default_short))]
+fn default_short(image: &Image, at: Start) -> bool
+    ensures { result ≡ default_short image.now.rows.words.now image.now.pool.now at.first }
 {
-    if rows::word_at(image, at + 11) == 0 {
-        return true;
-    }
-    text_short(image, pool, 256, at + 12)
+    rows::word_at(image.rows.words, at.word(11)) == 0 || text_short(image, 256, at.word(12))
 }
 
-fn field_texts_short(image: &[u32], pool: &[u8], at: usize) -> bool
-    requires { at < 2 ^ 63 }
-    ensures { result ≡ all_of (field_lengths image.now pool.now at) }
+fn field_texts_short(image: &Image, at: Start) -> bool
+    ensures { result ≡ all_of (field_lengths image.now.rows.words.now image.now.pool.now at.first) }
 {
-    if !text_short(image, pool, 64, at) {
-        return false;
-    }
-    if !type_name_short(image, pool, at) {
-        return false;
-    }
-    if !text_short(image, pool, 512, at + 7) {
-        return false;
-    }
-    if !text_short(image, pool, 64, at + 9) {
-        return false;
-    }
-    default_short(image, pool, at)
+    text_short(image, 64, at.first)
+        && type_name_short(image, at)
+        && text_short(image, 512, at.word(7))
+        && text_short(image, 64, at.word(9))
+        && default_short(image, at)
 }
 
 // The texts of the row of a kind that starts at word `at`.
-fn row_texts_short(image: &[u32], pool: &[u8], kind: Kind, at: usize) -> bool
-    requires { at < 2 ^ 63 }
-    ensures { result ≡ row_texts_short image.now pool.now kind at }
+#[tactic(auto, unfolding(crate::specs::Limits::row_texts_short))]
+fn row_texts_short(image: &Image, kind: Kind, at: Start) -> bool
+    ensures { result ≡ row_texts_short image.now.rows.words.now image.now.pool.now kind at.first }
 {
     match kind {
-        Kind::Import => text_short(image, pool, 128, at),
-        Kind::Message => text_short(image, pool, 64, at),
-        Kind::Enum => text_short(image, pool, 64, at),
-        Kind::Value => text_short(image, pool, 64, at),
-        Kind::Oneof => text_short(image, pool, 64, at),
-        Kind::Field => field_texts_short(image, pool, at),
+        Kind::Import => text_short(image, 128, at.first),
+        Kind::Message | Kind::Enum | Kind::Value | Kind::Oneof => text_short(image, 64, at.first),
+        Kind::Field => field_texts_short(image, at),
     }
 }
 
 // The texts of every row of a kind.
-fn kind_texts_short(image: &[u32], s: Sections, pool: &[u8], kind: Kind) -> bool
-    ensures { result ≡ kind_texts_short image.now s pool.now kind }
+fn kind_texts_short(image: &Image, kind: Kind) -> bool
+    ensures { result ≡ kind_texts_short image.now.rows.words.now image.now.rows.sections image.now.pool.now kind }
 {
-    let n = rows::count_of(s, kind);
-    let mut r: u32 = 0;
-    while r < n {
-        if !row_texts_short(image, pool, kind, rows::row_at(s, kind, Row(r))) {
-            return false;
-        }
-        r += 1;
-    }
-    true
+    let n = image.rows.sections.count_of(kind);
+    (0..n).all(|r| {
+        let at = Start {
+            first: image.rows.sections.row_at(kind, Row(r)),
+        };
+        row_texts_short(image, kind, at)
+    })
 }
 
 // Whether every text of an image is as short as it must be.
-pub fn texts_short(image: &[u32], s: Sections, pool: &[u8]) -> bool
-    ensures { result ≡ texts_short image.now s pool.now }
+#[tactic(auto, unfolding(crate::specs::Limits::texts_short, crate::specs::Words::trailer_at))]
+pub fn texts_short(image: &Image) -> bool
+    ensures { result ≡ texts_short image.now.rows.words.now image.now.rows.sections image.now.pool.now }
 {
-    let at = rows::trailer_at(image);
-    if !text_short(image, pool, 128, at + 1) {
-        return false;
-    }
-    if !text_short(image, pool, 128, at + 3) {
-        return false;
-    }
-    if !kind_texts_short(image, s, pool, Kind::Import) {
-        return false;
-    }
-    if !kind_texts_short(image, s, pool, Kind::Message) {
-        return false;
-    }
-    if !kind_texts_short(image, s, pool, Kind::Enum) {
-        return false;
-    }
-    if !kind_texts_short(image, s, pool, Kind::Value) {
-        return false;
-    }
-    if !kind_texts_short(image, s, pool, Kind::Oneof) {
-        return false;
-    }
-    kind_texts_short(image, s, pool, Kind::Field)
+    let at = rows::trailer_at(image.rows.words);
+    text_short(image, 128, at + 1)
+        && text_short(image, 128, at + 3)
+        && kind_texts_short(image, Kind::Import)
+        && kind_texts_short(image, Kind::Message)
+        && kind_texts_short(image, Kind::Enum)
+        && kind_texts_short(image, Kind::Value)
+        && kind_texts_short(image, Kind::Oneof)
+        && kind_texts_short(image, Kind::Field)
 }

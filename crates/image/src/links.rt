@@ -2,7 +2,7 @@
 ghost use Rattle.std.specs.Prelude.{◌≡◌, ◌+◌, ◌*◌, ◌≤◌, ◌<◌, ◌^◌, length};
 ghost use Rattle.lists.specs.Lists.{span, concat_map};
 ghost use Rattle.lists.specs.Splice.{splice, fronted};
-ghost use Rattle.image.specs.Schema.{schema_in};
+ghost use Rattle.image.specs.Schema.{schema};
 ghost use Rattle.image.specs.Flat.{rows_of};
 ghost use Rattle.image.specs.Links.{message_link_width, enum_link_width, oneof_link_width, enum_link, message_row, message_up, enum_row, enum_up};
 ghost use Rattle.image.specs.Record.{field_link_width, link_row, message_link_at, enum_link_at, oneof_link_at, field_link_at};
@@ -10,6 +10,7 @@ ghost use Rattle.image.specs.Walk.{link_at, oneof_row, counted_row};
 
 use crate::flat::Tally;
 use crate::rows::{Flat, Range, Row, Sections};
+use crate::schema::Image;
 use crate::{oneofs, rows};
 
 // How many words the link row of a message, an enum, a oneof and a field has.
@@ -41,37 +42,25 @@ pub(crate) fn put_words(words: &mut [u32], at: usize, src: &[u32])
     requires { at + length src.now ≤ length words.old }
     ensures { words.new ≡ splice words.old at src.now }
 {
-    let mut j = 0;
-    while j < src.len() {
-        words[at + j] = src[j];
-        j += 1;
-    }
+    words[at..at + src.len()].copy_from_slice(src);
 }
 
 // Writes all of `src` into the front of `words`, or nothing where there is no room.
 pub fn put_front(words: &mut [u32], src: &[u32])
     ensures { words.new ≡ fronted words.old src.now }
 {
-    if words.len() < src.len() {
-        return;
+    if src.len() <= words.len() {
+        put_words(words, 0, src);
     }
-    put_words(words, 0, src);
 }
 
 // The link row of a message that stands at the tally `t`, without its mark. `outside` is its enclosing word.
-pub(crate) fn message_link(
-    image: &[u32],
-    s: Sections,
-    pool: &[u8],
-    row: Row,
-    outside: u32,
-    t: Tally,
-) -> [u32; 10]
-    ensures { result ≡ link_at (schema_in image.now s pool.now) row.0 outside t }
+pub(crate) fn message_link(image: &Image, row: Row, outside: u32, t: Tally) -> [u32; 10]
+    ensures { result ≡ link_at (schema image.now) row.0 outside t }
 {
-    let fields = rows::fields_of(image, s, row);
-    let extensions = rows::extensions_of(image, s, row);
-    let entry = rows::map_entry(image, s, row);
+    let fields = image.rows.fields_of(row);
+    let extensions = image.rows.extensions_of(row);
+    let entry = image.rows.map_entry(row);
     [
         row.0,
         outside,
@@ -101,18 +90,18 @@ pub fn message_up(links: &[u32], m: Flat) -> u32
 }
 
 // The image row of an enum.
-pub fn enum_row(image: &[u32], s: Sections, pool: &[u8], links: &[u32], e: Flat) -> Row
-    ensures { result.0 ≡ enum_row (schema_in image.now s pool.now) links.now e.0 }
+pub fn enum_row(image: &Image, links: &[u32], e: Flat) -> Row
+    ensures { result.0 ≡ enum_row (schema image.now) links.now e.0 }
 {
-    let first = s.messages.count as usize * MESSAGE_LINK;
+    let first = image.rows.sections.messages.count as usize * MESSAGE_LINK;
     Row(rows::word_at(links, first + e.0 as usize * ENUM_LINK))
 }
 
 // The enclosing word of an enum.
-pub fn enum_up(image: &[u32], s: Sections, pool: &[u8], links: &[u32], e: Flat) -> u32
-    ensures { result ≡ enum_up (schema_in image.now s pool.now) links.now e.0 }
+pub fn enum_up(image: &Image, links: &[u32], e: Flat) -> u32
+    ensures { result ≡ enum_up (schema image.now) links.now e.0 }
 {
-    let first = s.messages.count as usize * MESSAGE_LINK;
+    let first = image.rows.sections.messages.count as usize * MESSAGE_LINK;
     rows::word_at(links, first + e.0 as usize * ENUM_LINK + 1)
 }
 
@@ -120,45 +109,41 @@ pub fn enum_up(image: &[u32], s: Sections, pool: &[u8], links: &[u32], e: Flat) 
 pub fn message_link_row(links: &[u32], m: Flat) -> [u32; 10]
     ensures { result ≡ link_row links.now (message_link_at m.0) message_link_width }
 {
-    let at = m.0 as usize * MESSAGE_LINK;
-    [
-        rows::word_at(links, at),
-        rows::word_at(links, at + 1),
-        rows::word_at(links, at + 2),
-        rows::word_at(links, at + 3),
-        rows::word_at(links, at + 4),
-        rows::word_at(links, at + 5),
-        rows::word_at(links, at + 6),
-        rows::word_at(links, at + 7),
-        rows::word_at(links, at + 8),
-        rows::word_at(links, at + 9),
-    ]
+    rows::words_at(links, m.0 as usize * MESSAGE_LINK)
 }
 
-pub fn enum_link_row(image: &[u32], s: Sections, pool: &[u8], links: &[u32], e: Flat) -> [u32; 2]
-    ensures { result ≡ link_row links.now (enum_link_at (schema_in image.now s pool.now) e.0) enum_link_width }
+pub fn enum_link_row(image: &Image, links: &[u32], e: Flat) -> [u32; 2]
+    ensures { result ≡ link_row links.now (enum_link_at (schema image.now) e.0) enum_link_width }
 {
-    let at = s.messages.count as usize * MESSAGE_LINK + e.0 as usize * ENUM_LINK;
-    [rows::word_at(links, at), rows::word_at(links, at + 1)]
+    let s = &image.rows.sections;
+    rows::words_at(
+        links,
+        s.messages.count as usize * MESSAGE_LINK + e.0 as usize * ENUM_LINK,
+    )
 }
 
-pub fn oneof_link_row(image: &[u32], s: Sections, pool: &[u8], links: &[u32], o: Flat) -> [u32; 4]
-    ensures { result ≡ link_row links.now (oneof_link_at (schema_in image.now s pool.now) o.0) oneof_link_width }
+pub fn oneof_link_row(image: &Image, links: &[u32], o: Flat) -> [u32; 4]
+    ensures { result ≡ link_row links.now (oneof_link_at (schema image.now) o.0) oneof_link_width }
 {
-    let at = s.messages.count as usize * MESSAGE_LINK
-        + (s.enums.count as usize * ENUM_LINK + o.0 as usize * ONEOF_LINK);
-    [
-        rows::word_at(links, at),
-        rows::word_at(links, at + 1),
-        rows::word_at(links, at + 2),
-        rows::word_at(links, at + 3),
-    ]
+    let s = &image.rows.sections;
+    rows::words_at(
+        links,
+        s.messages.count as usize * MESSAGE_LINK
+            + (s.enums.count as usize * ENUM_LINK + o.0 as usize * ONEOF_LINK),
+    )
 }
 
-pub fn field_link_row(image: &[u32], s: Sections, pool: &[u8], links: &[u32], k: Flat) -> [u32; 16]
-    ensures { result ≡ link_row links.now (field_link_at (schema_in image.now s pool.now) k.0) field_link_width }
+pub fn field_link_row(image: &Image, links: &[u32], k: Flat) -> [u32; 16]
+    ensures { result ≡ link_row links.now (field_link_at (schema image.now) k.0) field_link_width }
 {
-    rows::field_row_at(links, link_words(s) + k.0 as usize * FIELD_LINK)
+    // The sum of link_words, written out: a number behind a reference is known to fit its type only where it is read.
+    let s = &image.rows.sections;
+    rows::words_at(
+        links,
+        s.messages.count as usize * MESSAGE_LINK
+            + (s.enums.count as usize * ENUM_LINK + s.oneofs.count as usize * ONEOF_LINK)
+            + k.0 as usize * FIELD_LINK,
+    )
 }
 
 // Writes the link rows of a range of enums, with their enclosing word, into `links` from word `at` on.
@@ -167,13 +152,9 @@ pub(crate) fn put_enum_links(links: &mut [u32], at: usize, g: Range, outside: u3
     requires enum_link_width_in_bounds { at + g.count * enum_link_width ≤ length links.old }
     ensures { links.new ≡ splice links.old at (concat_map (enum_link outside) (rows_of g)) }
 {
-    let first = g.first;
-    let count = g.count;
-    let mut k: u32 = 0;
-    while k < count {
-        let link = [first + k, outside];
+    for k in 0..g.count {
+        let link = [g.first + k, outside];
         put_words(links, at + k as usize * ENUM_LINK, &link);
-        k += 1;
     }
 }
 
@@ -191,34 +172,25 @@ fn put_counted(m: Flat, n: u32, members: &[u32], optionals: &[u32], at: usize, l
     requires { at + n * oneof_link_width ≤ length links.old }
     ensures { links.new ≡ splice links.old at (concat_map (counted_row m.0 members.now optionals.now) (span 0 n)) }
 {
-    let mut k: u32 = 0;
-    while k < n {
+    for k in 0..n {
         let link = oneof_link(m, k, members, optionals);
         put_words(links, at + k as usize * ONEOF_LINK, &link);
-        k += 1;
     }
 }
 
-// Writes the link rows of the oneofs of a message into `links` from word `at` on. Members are counted in one pass over its fields.
-pub(crate) fn put_oneof_links(
-    image: &[u32],
-    s: Sections,
-    pool: &[u8],
-    m: Flat,
-    row: Row,
-    at: usize,
-    links: &mut [u32],
-)
-    requires row_bound { ((schema_in image.now s pool.now).oneofs_in row.0).count ≤ 256 }
-    requires oneof_link_width_in_bounds { at + ((schema_in image.now s pool.now).oneofs_in row.0).count * oneof_link_width ≤ length links.old }
-    ensures { links.new ≡ splice links.old at (concat_map (oneof_row (schema_in image.now s pool.now) m.0 row.0) (span 0 ((schema_in image.now s pool.now).oneofs_in row.0).count)) }
+// Writes the link rows of the oneofs of a message into `links` from word `at` on. Members are counted in one pass over its fields,
+// in arrays for the 256 oneofs that a file has at most.
+pub(crate) fn put_oneof_links(image: &Image, m: Flat, row: Row, at: usize, links: &mut [u32])
+    requires row_bound { ((schema image.now).oneofs_in row.0).count ≤ 256 }
+    requires oneof_link_width_in_bounds { at + ((schema image.now).oneofs_in row.0).count * oneof_link_width ≤ length links.old }
+    ensures { links.new ≡ splice links.old at (concat_map (oneof_row (schema image.now) m.0 row.0) (span 0 ((schema image.now).oneofs_in row.0).count)) }
 {
-    let g = rows::oneofs_of(image, s, row);
+    let g = image.rows.oneofs_of(row);
     if g.count == 0 {
         return;
     }
     let mut members = [0u32; 256];
     let mut optionals = [0u32; 256];
-    oneofs::count_members(image, s, pool, row, &mut members, &mut optionals);
+    oneofs::count_members(image, row, &mut members, &mut optionals);
     put_counted(m, g.count, &members, &optionals, at, links);
 }

@@ -3,24 +3,13 @@ ghost use Rattle.std.specs.Prelude.{◌≡◌, cond, ◌&&◌, eqb, length};
 ghost use Rattle.lists.specs.Below.{bit};
 ghost use Rattle.lists.specs.Lists.{table};
 ghost use Rattle.image.specs.Words.{word_at};
-ghost use Rattle.image.specs.Schema.{schema_in};
+ghost use Rattle.image.specs.Schema.{schema};
 ghost use Rattle.image.specs.Members.{member_count, optional_members};
-ghost use Rattle.image.specs.Marks.{Free};
 ghost use Rattle.image.specs.Counts.{Growable, Joined};
 
 use crate::rows;
-use crate::rows::{Row, Sections};
-
-// Sets all counts to 0.
-fn clear(counts: &mut [u32])
-    ensures { Free counts.new }
-{
-    let mut k = 0;
-    while k < counts.len() {
-        counts[k] = 0;
-        k += 1;
-    }
-}
+use crate::rows::Row;
+use crate::schema::Image;
 
 // Counts a field whose oneof word is `oneof`. The word is an index + 1, or 0 for none, and an index beyond the counts joins none.
 fn join(counts: &mut [u32], oneof: u32)
@@ -48,27 +37,17 @@ fn optional_oneof(field: &[u32]) -> u32
 }
 
 // How many members each oneof of a message has, and how many of these are proto3_optional. The slices have a place for each oneof.
-pub fn count_members(
-    image: &[u32],
-    s: Sections,
-    pool: &[u8],
-    row: Row,
-    members: &mut [u32],
-    optionals: &mut [u32],
-)
-    ensures members_after { members.new ≡ table (length members.old) (member_count (schema_in image.now s pool.now) row.0) }
-    ensures optionals_after { optionals.new ≡ table (length optionals.old) (optional_members (schema_in image.now s pool.now) row.0) }
+pub fn count_members(image: &Image, row: Row, members: &mut [u32], optionals: &mut [u32])
+    ensures members_after { members.new ≡ table (length members.old) (member_count (schema image.now) row.0) }
+    ensures optionals_after { optionals.new ≡ table (length optionals.old) (optional_members (schema image.now) row.0) }
 {
-    clear(members);
-    clear(optionals);
-    let g = rows::fields_of(image, s, row);
-    let n = g.count;
-    let mut j: u32 = 0;
-    while j < n {
-        let f = rows::nth_field(image, s, g, j);
+    members.fill(0);
+    optionals.fill(0);
+    let g = image.rows.fields_of(row);
+    for j in 0..g.count {
+        let f = image.rows.nth_field(g, j);
         join(members, f[14]);
         join(optionals, optional_oneof(&f));
-        j += 1;
     }
 }
 
@@ -76,11 +55,5 @@ pub fn count_members(
 pub fn synthetic_mark(members: u32, optionals: u32) -> u32
     ensures { result ≡ bit (eqb members 1 && eqb optionals 1) }
 {
-    if members != 1 {
-        return 0;
-    }
-    if optionals != 1 {
-        return 0;
-    }
-    1
+    u32::from(members == 1 && optionals == 1)
 }

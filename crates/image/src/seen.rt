@@ -12,6 +12,7 @@ fn mark_of(key: u32, n: usize) -> u8
 }
 
 // Whether a key's place has its mark, or several.
+#[tactic(auto, unfolding(crate::specs::Seen::is_seen, crate::specs::Seen::is_marked))]
 pub(crate) fn is_seen(seen: &[u8], key: u32) -> bool
     requires { 0 < length seen.now }
     ensures { result ≡ is_seen seen.now key }
@@ -25,6 +26,7 @@ pub(crate) fn is_seen(seen: &[u8], key: u32) -> bool
 }
 
 // What stands at a place once a mark more is left there: the mark, or 255 where another stood there.
+#[tactic(auto, unfolding(crate::specs::Seen::mark_behind))]
 fn mark_behind(old: u8, mark: u8) -> u8
     ensures { result ≡ mark_behind old mark }
 {
@@ -38,6 +40,7 @@ fn mark_behind(old: u8, mark: u8) -> u8
 }
 
 // Leaves a key's mark.
+#[tactic(auto, unfolding(crate::specs::Seen::see))]
 pub(crate) fn see(seen: &mut [u8], key: u32)
     requires { 0 < length seen.old }
     ensures { seen.new ≡ see seen.old key }

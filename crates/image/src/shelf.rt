@@ -1,61 +1,107 @@
 // The shelf: a chain of records behind each other in lent words, with their pools in lent bytes, and where its files stand.
-ghost use Rattle.std.specs.Prelude.{◌≡◌, cond, ◌≤◌, length};
+ghost use Rattle.std.specs.Prelude.{◌≡◌, cond, ◌≤◌, length, get_or};
 ghost use Rattle.image.specs.Shelf.{shelf_of, end_word, record_fits, used_part};
-ghost use Rattle.image.specs.Places.{file_in, places_of, nowhere, chained};
+ghost use Rattle.image.specs.Places.{no_place, file_of, shelf_file, places_of, chained};
 
-use crate::{links, rows, texts};
+use crate::rows::Sections;
+use crate::{links, rows};
 
 // What the caller holds: words used, bytes used, files.
-#[derive(Clone, Copy)]
+#[derive(Clone, Copy, Debug, PartialEq, Eq)]
 pub struct Used {
     pub words: u32,
     pub bytes: u32,
     pub files: u32,
 }
 
-// Where the files of a well-formed shelf stand: for each the start of its record and how many words its image has, and the
-// start and length of its pool. Where the shelf is not well formed, `whole` is false and all numbers are 0.
+// Where a file of a shelf stands: the start of its record and how many words its image has, and the start and length of its pool.
+#[derive(Clone, Copy, Debug, PartialEq, Eq)]
+pub struct Place {
+    pub start: u32,
+    pub image: u32,
+    pub pool: u32,
+    pub length: u32,
+}
+
+// Where no file stands.
+const NO_PLACE: Place = Place {
+    start: 0,
+    image: 0,
+    pool: 0,
+    length: 0,
+};
+
+// Where the files of a shelf stand.
 #[derive(Clone, Copy)]
 pub struct Places {
-    pub whole: bool,
-    pub starts: [u32; 32],
-    pub images: [u32; 32],
-    pub pools: [u32; 32],
-    pub lengths: [u32; 32],
+    pub files: [Place; 32],
 }
 
-// The image of file `f`.
-pub fn file_image<'a>(words: &'a [u32], bytes: &[u8], p: Places, f: u32) -> &'a [u32]
-    ensures { result.now ≡ (file_in words.now bytes.now p f).image }
-{
-    let starts = p.starts;
-    let images = p.images;
-    let start = rows::word_at(&starts, f as usize);
-    let size = rows::word_at(&images, f as usize);
-    rows::words_part(words, start as usize, size as usize)
+// Lent words and bytes with the places of the files in them.
+#[derive(Clone, Copy)]
+pub struct Shelf<'a> {
+    pub words: &'a [u32],
+    pub bytes: &'a [u8],
+    pub places: Places,
 }
 
-// Its link rows.
-pub fn file_links<'a>(words: &'a [u32], bytes: &[u8], p: Places, f: u32) -> &'a [u32]
-    ensures { result.now ≡ (file_in words.now bytes.now p f).links }
-{
-    let starts = p.starts;
-    let images = p.images;
-    let start = rows::word_at(&starts, f as usize) as usize;
-    let size = rows::word_at(&images, f as usize) as usize;
-    let s = rows::read_sections(rows::words_part(words, start, size));
-    rows::words_part(words, start + size, links::link_row_words(s))
+// A file of a shelf: the words of its image, the bytes of its pool, its link rows.
+#[derive(Clone, Copy)]
+pub struct File<'a> {
+    pub image: &'a [u32],
+    pub pool: &'a [u8],
+    pub links: &'a [u32],
 }
 
-// Its pool.
-pub fn file_pool<'a>(words: &[u32], bytes: &'a [u8], p: Places, f: u32) -> &'a [u8]
-    ensures { result.now ≡ (file_in words.now bytes.now p f).pool }
-{
-    let pools = p.pools;
-    let lengths = p.lengths;
-    let start = rows::word_at(&pools, f as usize);
-    let length = rows::word_at(&lengths, f as usize);
-    texts::bytes_part(bytes, start as usize, length as usize)
+impl<'a> Shelf<'a> {
+    // Where file `f` stands.
+    fn place(&self, f: u32) -> Place
+        ensures { result ≡ get_or self.now.places.files f no_place }
+    {
+        self.places
+            .files
+            .get(f as usize)
+            .copied()
+            .unwrap_or(NO_PLACE)
+    }
+
+    // The image of file `f`.
+    pub fn image(&self, f: u32) -> &'a [u32]
+        ensures { result.now ≡ (shelf_file self.now f).image }
+    {
+        let at = self.place(f);
+        rows::part(self.words, at.start as usize, at.image as usize)
+    }
+
+    // Its link rows.
+    pub fn links(&self, f: u32) -> &'a [u32]
+        ensures { result.now ≡ (shelf_file self.now f).links }
+    {
+        let at = self.place(f);
+        let start = at.start as usize;
+        let size = at.image as usize;
+        let s = Sections::read(rows::part(self.words, start, size));
+        rows::part(self.words, start + size, links::link_row_words(s))
+    }
+
+    // Its pool.
+    pub fn pool(&self, f: u32) -> &'a [u8]
+        ensures { result.now ≡ (shelf_file self.now f).pool }
+    {
+        let at = self.place(f);
+        rows::part(self.bytes, at.pool as usize, at.length as usize)
+    }
+
+    // All three.
+    pub fn file(&self, f: u32) -> File<'a>
+        ensures { file_of result ≡ shelf_file self.now f }
+    {
+        File {
+            image: self.image(f),
+            pool: self.pool(f),
+            links: self.links(f),
+        }
+    }
 }
 
 // Word `k` of the 8 words at the end of the last record.
@@ -77,7 +123,7 @@ fn record_fits(words: &[u32], bytes: &[u8]) -> bool
     }
     let start = end_word(words, 0) as usize;
     let size = end_word(words, 1) as usize;
-    let s = rows::read_sections(rows::words_part(words, start, size));
+    let s = Sections::read(rows::part(words, start, size));
     if start + size + links::link_row_words(s) + 8 != words.len() {
         return false;
     }
@@ -96,58 +142,33 @@ fn record_fits(words: &[u32], bytes: &[u8]) -> bool
     end_word(words, 7) == s.fields.count
 }
 
-// No places: what is answered where the shelf is not well formed.
-pub(crate) fn no_places() -> Places
-    ensures { result ≡ nowhere }
-{
-    Places {
-        whole: false,
-        starts: [0u32; 32],
-        images: [0u32; 32],
-        pools: [0u32; 32],
-        lengths: [0u32; 32],
-    }
-}
-
-// Walks back over the ends of records, and keeps where each file stands.
-pub(crate) fn walk_back(words: &[u32], bytes: &[u8], used: Used) -> Places
+// Walks back over the ends of records, and keeps where each file stands; none where they do not chain back to nothing.
+pub(crate) fn walk_back(words: &[u32], bytes: &[u8], used: Used) -> Option<Places>
     requires files_bound { used.files ≤ 32 }
     requires words_in_bounds { used.words ≤ length words.now }
     requires bytes_in_bounds { used.bytes ≤ length bytes.now }
-    ensures { result ≡ cond (chained used.files (used_part words.now bytes.now used)) (places_of used.files (used_part words.now bytes.now used)) nowhere }
+    ensures { result ≡ cond (chained used.files (used_part words.now bytes.now used)) (Some (places_of used.files (used_part words.now bytes.now used))) None }
 {
-    let mut starts = [0u32; 32];
-    let mut images = [0u32; 32];
-    let mut pools = [0u32; 32];
-    let mut lengths = [0u32; 32];
-    let mut k = used.files as usize;
+    let mut files = [NO_PLACE; 32];
     let mut w = used.words as usize;
     let mut b = used.bytes as usize;
-    while 0 < k {
+    for k in (0..used.files as usize).rev() {
         let us = &words[..w];
         let ps = &bytes[..b];
         if !record_fits(us, ps) {
-            return no_places();
+            return None;
         }
-        k -= 1;
-        starts[k] = end_word(us, 0);
-        images[k] = end_word(us, 1);
-        pools[k] = end_word(us, 2);
-        lengths[k] = end_word(us, 3);
+        files[k] = Place {
+            start: end_word(us, 0),
+            image: end_word(us, 1),
+            pool: end_word(us, 2),
+            length: end_word(us, 3),
+        };
         w = end_word(us, 0) as usize;
         b = end_word(us, 2) as usize;
     }
-    if w != 0 {
-        return no_places();
+    if w != 0 || b != 0 {
+        return None;
     }
-    if b != 0 {
-        return no_places();
-    }
-    Places {
-        whole: true,
-        starts,
-        images,
-        pools,
-        lengths,
-    }
+    Some(Places { files })
 }

@@ -1,39 +1,34 @@
-// Lookups of an enum's values, by number or name. Where several have it, the last index wins, so the search goes from the end.
+// Lookups of an enum's values, by number or name. Where several have it, the last index wins, so the search goes from the end. The two lookups differ in their
+// test alone; one function for both would have to be told what a test promises.
 ghost use Rattle.std.specs.Prelude.{◌≡◌};
-ghost use Rattle.image.specs.Schema.{schema_in};
+ghost use Rattle.image.specs.Schema.{schema};
 ghost use Rattle.image.specs.Values.{value_by_number, value_by_name};
 
-use crate::rows::{Found, Kind, Row, Sections};
-use crate::{rows, texts};
-use names::bytes;
+use crate::rows;
+use crate::rows::{Kind, Row};
+use crate::schema::Image;
 
-pub fn value_by_number(image: &[u32], s: Sections, pool: &[u8], row: Row, number: u32) -> Found
-    ensures { result ≡ value_by_number (schema_in image.now s pool.now) row.0 number }
+pub fn value_by_number(image: &Image, row: Row, number: u32) -> Option<u32>
+    ensures { result ≡ value_by_number (schema image.now) row.0 number }
 {
-    let g = rows::values_of(image, s, row);
-    let mut k = g.count;
-    while 0 < k {
-        k -= 1;
-        if rows::word_at(image, rows::nth_at(s, Kind::Value, g, k) + 2) == number {
-            return Found::At(k);
+    let g = image.rows.values_of(row);
+    for k in (0..g.count).rev() {
+        let at = image.rows.sections.nth_at(Kind::Value, g, k);
+        if rows::word_at(image.rows.words, at + 2) == number {
+            return Some(k);
         }
     }
-    Found::Nothing
+    None
 }
 
-pub fn value_by_name(image: &[u32], s: Sections, pool: &[u8], row: Row, text: &[u8]) -> Found
-    ensures { result ≡ value_by_name (schema_in image.now s pool.now) row.0 text.now }
+pub fn value_by_name(image: &Image, row: Row, text: &[u8]) -> Option<u32>
+    ensures { result ≡ value_by_name (schema image.now) row.0 text.now }
 {
-    let g = rows::values_of(image, s, row);
-    let mut k = g.count;
-    while 0 < k {
-        k -= 1;
-        if bytes::same_bytes(
-            texts::text_of(image, pool, rows::nth_at(s, Kind::Value, g, k)),
-            text,
-        ) {
-            return Found::At(k);
+    let g = image.rows.values_of(row);
+    for k in (0..g.count).rev() {
+        if image.text_at(image.rows.sections.nth_at(Kind::Value, g, k)) == text {
+            return Some(k);
         }
     }
-    Found::Nothing
+    None
 }

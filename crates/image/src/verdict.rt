@@ -3,7 +3,7 @@ ghost use Rattle.std.specs.Prelude.{◌≡◌};
 ghost use Rattle.image.specs.Verdict.{number};
 
 // The refusals, in the order tried.
-#[derive(Clone, Copy)]
+#[derive(Clone, Copy, Debug, PartialEq, Eq)]
 pub enum Refusal {
     TooLong,
     ShelfBroken,
@@ -25,12 +25,15 @@ pub enum Refusal {
     NoRoom,
 }
 
-// No refusal, or the first that was given, with its place.
-#[derive(Clone, Copy)]
-pub enum Verdict {
-    Passed,
-    Stopped(Refusal, u32),
+// The first refusal that was given, with its place.
+#[derive(Clone, Copy, Debug, PartialEq, Eq)]
+pub struct Refused {
+    pub refusal: Refusal,
+    pub place: u32,
 }
+
+// No refusal, or the first that was given.
+pub type Verdict = Result<(), Refused>;
 
 impl Refusal {
     // The number of a refusal in the table.
@@ -56,6 +59,16 @@ impl Refusal {
             Refusal::EnumMissing => 16,
             Refusal::FieldClash => 17,
             Refusal::NoRoom => 18,
+        }
+    }
+
+    // The refusal, given at a place.
+    pub fn at(self, place: u32) -> Refused
+        ensures { result ≡ record { refusal = self; place = place } }
+    {
+        Refused {
+            refusal: self,
+            place,
         }
     }
 }

@@ -1,31 +1,22 @@
 // Rule 2: whether two slices and three numbers are a well-formed shelf.
 ghost use Rattle.std.specs.Prelude.{◌≡◌, true, ◌≤◌, ◌<◌, length, take};
-ghost use Rattle.image.specs.Schema.{schema_in, schema_of};
+ghost use Rattle.image.specs.Schema.{schema, schema_of};
 ghost use Rattle.image.specs.Links.{links_of, link_words};
 ghost use Rattle.image.specs.Record.{says};
 ghost use Rattle.image.specs.Shelf.{clash_free, image_obeys, file_named, is_fresh, imports_named, file_fits, well_formed};
-ghost use Rattle.image.specs.Places.{file_in, files_in, files_fit, read_shelf};
+ghost use Rattle.image.specs.Places.{shelf_file, shelf_files, shelf_fits, read_shelf};
 
-use crate::rows::{Found, Kind, Row, Sections};
-use crate::shelf::{Places, Used};
-use crate::verdict::Verdict;
-use crate::{fields, imports, judge, link_tests, links, rows, shelf};
-use names::bytes::same_bytes;
+use crate::rows::{Row, Sections};
+use crate::schema::Image;
+use crate::shelf::{Places, Shelf, Used};
+use crate::{fields, imports, judge, link_tests, links, shelf};
 
 // Whether no regular field of any message clashes with an earlier one.
-fn clash_free(image: &[u32], s: Sections, pool: &[u8]) -> bool
-    ensures { result ≡ clash_free (schema_in image.now s pool.now) }
+fn clash_free(image: &Image) -> bool
+    ensures { result ≡ clash_free (schema image.now) }
 {
-    let n = s.messages.count;
-    let mut r: u32 = 0;
-    while r < n {
-        let found = fields::first_clash(image, s, pool, Row(r));
-        if let Found::At(j) = found {
-            return false;
-        }
-        r += 1;
-    }
-    true
+    let n = image.rows.sections.messages.count;
+    (0..n).all(|r| fields::first_clash(image, Row(r)).is_none())
 }
 
 // Whether an image obeys 3 to 5, 8 to 11 and 17. If it does, its link rows stand in front of `own`.
@@ -34,139 +25,111 @@ fn image_obeys(image: &[u32], pool: &[u8], own: &mut [u32]) -> bool
     ensures value { result ≡ image_obeys image.now pool.now }
     ensures own_after { result ≡ true → take (link_words (schema_of image.now pool.now)) own.new ≡ links_of (schema_of image.now pool.now) }
 {
-    let judged = judge::judge_image(image, pool, false, own);
-    let opening = judged.opening;
-    let naming = judged.naming;
-    if let Verdict::Stopped(r, place) = opening {
+    let Ok(naming) = judge::judge_image(image, pool, false, own) else {
+        return false;
+    };
+    if naming.is_err() {
         return false;
     }
-    if let Verdict::Stopped(r, place) = naming {
-        return false;
-    }
-    clash_free(image, rows::read_sections(image), pool)
+    clash_free(&Image::read(image, pool))
 }
 
 // The name of file `f`.
-pub fn file_name<'a>(words: &[u32], bytes: &'a [u8], p: Places, f: u32) -> &'a [u8]
-    ensures { result.now ≡ (says (file_in words.now bytes.now p f)).file_name }
+pub fn file_name<'a>(shelf: &Shelf<'a>, f: u32) -> &'a [u8]
+    ensures { result.now ≡ (says (shelf_file shelf.now f)).file_name }
 {
-    let image = shelf::file_image(words, bytes, p, f);
-    let pool = shelf::file_pool(words, bytes, p, f);
-    imports::file_name(image, rows::read_sections(image), pool)
+    imports::file_name(&Image::read(shelf.image(f), shelf.pool(f)))
 }
 
 // The first of the first `n` files that has a name.
-pub fn file_named(words: &[u32], bytes: &[u8], p: Places, n: u32, name: &[u8]) -> Found
-    ensures { result ≡ file_named (files_in words.now bytes.now p n) name.now }
+pub fn file_named(shelf: &Shelf, n: u32, name: &[u8]) -> Option<u32>
+    ensures { result ≡ file_named (shelf_files shelf.now n) name.now }
 {
-    let mut f: u32 = 0;
-    while f < n {
-        if same_bytes(file_name(words, bytes, p, f), name) {
-            return Found::At(f);
-        }
-        f += 1;
-    }
-    Found::Nothing
+    (0..n).find(|&f| file_name(shelf, f) == name)
 }
 
 // Whether the imports of file `f` name earlier files.
-fn imports_named(words: &[u32], bytes: &[u8], p: Places, f: u32) -> bool
-    ensures { result ≡ imports_named (files_in words.now bytes.now p f) (file_in words.now bytes.now p f) }
+fn imports_named(shelf: &Shelf, f: u32) -> bool
+    ensures { result ≡ imports_named (shelf_files shelf.now f) (shelf_file shelf.now f) }
 {
-    let image = shelf::file_image(words, bytes, p, f);
-    let pool = shelf::file_pool(words, bytes, p, f);
-    let s = rows::read_sections(image);
-    let n = rows::count_of(s, Kind::Import);
-    let mut i: u32 = 0;
-    while i < n {
-        let name = imports::import_name(image, s, pool, Row(i));
-        let found = file_named(words, bytes, p, f, name);
-        if let Found::Nothing = found {
-            return false;
-        }
-        i += 1;
-    }
-    true
+    let image = Image::read(shelf.image(f), shelf.pool(f));
+    let n = image.rows.sections.imports.count;
+    (0..n).all(|i| file_named(shelf, f, imports::import_name(&image, Row(i))).is_some())
 }
 
 // Whether no earlier file has the name of file `f`.
-fn is_fresh(words: &[u32], bytes: &[u8], p: Places, f: u32) -> bool
-    ensures { result ≡ is_fresh (files_in words.now bytes.now p f) (file_in words.now bytes.now p f) }
+fn is_fresh(shelf: &Shelf, f: u32) -> bool
+    ensures { result ≡ is_fresh (shelf_files shelf.now f) (shelf_file shelf.now f) }
 {
-    let found = file_named(words, bytes, p, f, file_name(words, bytes, p, f));
-    if let Found::At(e) = found {
-        return false;
-    }
-    true
+    file_named(shelf, f, file_name(shelf, f)).is_none()
 }
 
 // Whether file `f` is in order behind the files before it. `own` is room for the link rows that its image gives.
-fn file_fits(words: &[u32], bytes: &[u8], p: Places, f: u32, own: &mut [u32]) -> bool
+fn file_fits(shelf: &Shelf, f: u32, own: &mut [u32]) -> bool
     requires f_bound { f < 32 }
     requires in_bounds { 4096 ≤ length own.old }
-    ensures { result ≡ file_fits (files_in words.now bytes.now p f) (file_in words.now bytes.now p f) }
+    ensures { result ≡ file_fits (shelf_files shelf.now f) (shelf_file shelf.now f) }
 {
-    let image = shelf::file_image(words, bytes, p, f);
-    let pool = shelf::file_pool(words, bytes, p, f);
-    if !image_obeys(image, pool, own) {
+    let image = shelf.image(f);
+    if !image_obeys(image, shelf.pool(f), own) {
         return false;
     }
-    if !is_fresh(words, bytes, p, f) {
+    if !is_fresh(shelf, f) {
         return false;
     }
-    if !imports_named(words, bytes, p, f) {
+    if !imports_named(shelf, f) {
         return false;
     }
-    let n = links::link_words(rows::read_sections(image));
-    link_tests::links_fit(words, bytes, p, f, &own[..n])
+    let n = links::link_words(Sections::read(image));
+    link_tests::links_fit(shelf, f, &own[..n])
 }
 
-// Whether the first `n` files are in order. An empty shelf needs no room for link rows.
-fn files_fit(words: &[u32], bytes: &[u8], p: Places, n: u32) -> bool
+// Whether the first `n` files are in order. An empty shelf needs no room for link rows, which is fixed memory
+// for the most that a file has.
+fn files_fit(shelf: &Shelf, n: u32) -> bool
     requires { n ≤ 32 }
-    ensures { result ≡ files_fit words.now bytes.now p n }
+    ensures { result ≡ shelf_fits shelf.now n }
 {
     if n == 0 {
         return true;
     }
     let mut own = [0u32; 4096];
-    let mut f: u32 = 0;
-    while f < n {
-        if !file_fits(words, bytes, p, f, &mut own) {
+    for f in 0..n {
+        if !file_fits(shelf, f, &mut own) {
             return false;
         }
-        f += 1;
     }
     true
 }
 
 // Where the files of a shelf stand, if it is well formed.
-pub fn read_shelf(words: &[u32], bytes: &[u8], used: Used) -> Places
+pub fn read_shelf(words: &[u32], bytes: &[u8], used: Used) -> Option<Places>
     ensures { result ≡ read_shelf words.now bytes.now used }
 {
     if 32 < used.files {
-        return shelf::no_places();
+        return None;
     }
     if words.len() < used.words as usize {
-        return shelf::no_places();
+        return None;
     }
     if bytes.len() < used.bytes as usize {
-        return shelf::no_places();
+        return None;
     }
-    let p = shelf::walk_back(words, bytes, used);
-    if !p.whole {
-        return shelf::no_places();
+    let places = shelf::walk_back(words, bytes, used)?;
+    let shelf = Shelf {
+        words,
+        bytes,
+        places,
+    };
+    if !files_fit(&shelf, used.files) {
+        return None;
     }
-    if !files_fit(words, bytes, p, used.files) {
-        return shelf::no_places();
-    }
-    p
+    Some(places)
 }
 
 // Whether two slices and three numbers are a well-formed shelf.
 pub fn is_well_formed(words: &[u32], bytes: &[u8], used: Used) -> bool
     ensures { result ≡ well_formed words.now bytes.now used }
 {
-    let p = read_shelf(words, bytes, used);
-    p.whole
+    read_shelf(words, bytes, used).is_some()
 }

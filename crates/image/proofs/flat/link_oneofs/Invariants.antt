@@ -1,5 +1,4 @@
 -- `image::flat::link_oneofs` meets its contract: the link rows of the oneofs of the first m messages are written. Assumes nothing.
-use Prim.Native.Nat.{◌-◌}
 use Rattle.image.specs.Schema.{schema_in}
 use Rattle.image.specs.Walk.{oneof_part, oneof_links_at}
 use Rattle.image.proofs.LinkLaws.{Writing}
@@ -7,8 +6,5 @@ use Rattle.image.proofs.flat.link_oneofs.Given as goal
 
 abbrev pub invariant-loop-m : goal.invariant-loop-m
 invariant-loop-m l =
-    let g = schema_in l.image l.s l.pool in
+    let g = schema_in l.image.rows.words.now l.image.rows.sections l.image.pool.now in
     Writing (oneof_part g) (oneof_links_at g) g.messages l.initial.links l.m l.to l.links
-
-abbrev pub decreases-loop-m : goal.decreases-loop-m
-decreases-loop-m l = l.n - l.m

@@ -1,5 +1,4 @@
 -- `image::flat::list_message_fields` meets its contract: the fields of the first m messages are listed. Assumes nothing.
-use Prim.Native.Nat.{◌-◌}
 use Rattle.image.specs.Schema.{schema_in}
 use Rattle.image.specs.Flat.{first_field}
 use Rattle.image.specs.Walk.{field_part}
@@ -9,8 +8,5 @@ use Rattle.image.proofs.flat.list_message_fields.Given as goal
 
 abbrev pub invariant-loop-m : goal.invariant-loop-m
 invariant-loop-m l =
-    let g = schema_in l.image l.s l.pool in
+    let g = schema_in l.image.rows.words.now l.image.rows.sections l.image.pool.now in
     Writing (field_part g) (first_field g) g.messages l.initial.homes l.m l.to l.homes × Writing (containers_in g) (first_field g) g.messages l.initial.holders l.m l.to l.holders
-
-abbrev pub decreases-loop-m : goal.decreases-loop-m
-decreases-loop-m l = l.n - l.m

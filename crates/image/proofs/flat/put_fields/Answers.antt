@@ -7,15 +7,15 @@ use Rattle.image.proofs.flat.put_fields.Goals as goal
 
 pub loop-k-init : goal.loop-k-init
 loop-k-init c = let a = c.args in
-    (omega arith, refl, refl, rows_none a.homes.now a.at a.g.first, words_none a.holders.now a.at a.container)
+    (refl, refl, rows_none a.homes.now a.at a.g.first, words_none a.holders.now a.at a.container)
 
 pub loop-k-preserved : goal.loop-k-preserved
 loop-k-preserved c = let a = c.args in
     let h = c.loop-k.invariant in
     let k = c.loop-k.k in
-    (omega arith, search rules, search rules, rows_next a.homes.now a.at a.g.first k (omega (arith, c.requires.count_in_bounds, c.loop-k-test.true)) h.3, words_next a.holders.now a.at a.container k (omega (arith, c.requires.count_in_bounds_2, c.loop-k-test.true)) h.4)
+    (search rules, search rules, rows_next a.homes.now a.at a.g.first k (omega (arith, c.requires.count_in_bounds, c.loop-k-test.true)) h.2, words_next a.holders.now a.at a.container k (omega (arith, c.requires.count_in_bounds_2, c.loop-k-test.true)) h.3)
 
 pub returns : goal.returns
 returns c =
     let e : c.loop-k.k ≡ c.args.g.count = omega arith in
-    record { homes_after = rw e at c.loop-k.invariant.3; holders_after = rw e at c.loop-k.invariant.4 }
+    record { homes_after = rw e at c.loop-k.invariant.2; holders_after = rw e at c.loop-k.invariant.3 }

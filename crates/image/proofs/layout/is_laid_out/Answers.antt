@@ -10,29 +10,24 @@ use Rattle.image.proofs.layout.is_laid_out.Goals as goal
 use Rattle.image.proofs.layout.is_laid_out.Goals.{Else-not-all_rows_fit}
 
 -- what the tests before tell
-framed : (c : Else-not-all_rows_fit) →
-    let a = c.args in
-    Each (frame_tests a.image.now a.pool c.read_sections-s.result)
+framed : (c : Else-not-all_rows_fit) → Each (frame_tests c.read-rows.result.words.now c.args.pool c.read-rows.result.sections)
 unfolding frame_fits
-framed c =
-    let a = c.args in
-    each (frame_tests a.image.now a.pool c.read_sections-s.result) (sym c.frame_fits.ensures ∙ c.if-not-frame_fits.false)
+framed c = each (frame_tests c.read-rows.result.words.now c.args.pool c.read-rows.result.sections) (sym c.frame_fits.ensures ∙ c.if-not-frame_fits.false)
 
-ranged : (c : Else-not-all_rows_fit) → Ranged c.args.image.now c.read_sections-s.result c.args.pool
+ranged : (c : Else-not-all_rows_fit) → Ranged c.read-rows.result.words.now c.read-rows.result.sections c.args.pool
 unfolding all_rows_fit
 ranged c =
-    let a = c.args in
-    let rows = each (rows_tests a.image.now a.pool c.read_sections-s.result) (sym c.all_rows_fit.ensures ∙ c.if-not-all_rows_fit.false) in
+    let rows = each (rows_tests c.read-rows.result.words.now c.args.pool c.read-rows.result.sections) (sym c.all_rows_fit.ensures ∙ c.if-not-all_rows_fit.false) in
     record { files = (framed c).1.1.1.0; messages = rows.1.0; enums = rows.1.1.0 }
 
-roomy : (c : Else-not-all_rows_fit) → Roomy c.read_sections-s.result row_limit
-roomy c = few-rows c.args.image.now c.read_sections-s.result c.if-image-gt65536.false (framed c).1.1.0
+roomy : (c : Else-not-all_rows_fit) → Roomy c.read-rows.result.sections row_limit
+roomy c = few-rows c.read-rows.result.words.now c.read-rows.result.sections (rw c.read-rows.ensures c.if-image-gt65536.false) (framed c).1.1.0
 
 -- owners alone are left to be tested
-owners-left : (c : Else-not-all_rows_fit) → laid_out_within_limit c.args.image.now c.args.pool ≡ all_owned c.args.image.now c.read_sections-s.result
+owners-left : (c : Else-not-all_rows_fit) → laid_out_within_limit c.args.image.now c.args.pool ≡ all_owned c.read-rows.result.words.now c.read-rows.result.sections
 unfolding laid_out_within_limit laid_out
 owners-left c =
-    simp (le-leb _ _ c.if-image-gt65536.false, ← (rw c.read_sections-s.ensures at c.frame_fits.ensures), c.if-not-frame_fits.false, ← (rw c.read_sections-s.ensures at c.all_rows_fit.ensures), c.if-not-all_rows_fit.false, c.read_sections-s.ensures)
+    simp (le-leb _ _ c.if-image-gt65536.false, ← (rw c.read-rows.ensures at c.frame_fits.ensures), c.if-not-frame_fits.false, ← (rw c.read-rows.ensures at c.all_rows_fit.ensures), c.if-not-all_rows_fit.false, c.read-rows.ensures)
 
 pub returns-then-image-gt65536 : goal.returns-then-image-gt65536
 unfolding laid_out_within_limit
@@ -40,14 +35,14 @@ returns-then-image-gt65536 c = simp (lt-leb _ _ c.if-image-gt65536.true)
 
 pub returns-then-not-frame_fits : goal.returns-then-not-frame_fits
 unfolding laid_out_within_limit laid_out
-returns-then-not-frame_fits c = simp (le-leb _ _ c.if-image-gt65536.false, ← (rw c.read_sections-s.ensures at c.frame_fits.ensures), c.if-not-frame_fits.true)
+returns-then-not-frame_fits c = simp (le-leb _ _ c.if-image-gt65536.false, ← (rw c.read-rows.ensures at c.frame_fits.ensures), c.if-not-frame_fits.true)
 
 pub returns-then-not-all_rows_fit : goal.returns-then-not-all_rows_fit
 unfolding laid_out_within_limit laid_out
-returns-then-not-all_rows_fit c = simp (le-leb _ _ c.if-image-gt65536.false, ← (rw c.read_sections-s.ensures at c.frame_fits.ensures), c.if-not-frame_fits.false, ← (rw c.read_sections-s.ensures at c.all_rows_fit.ensures), c.if-not-all_rows_fit.true)
+returns-then-not-all_rows_fit c = simp (le-leb _ _ c.if-image-gt65536.false, ← (rw c.read-rows.ensures at c.frame_fits.ensures), c.if-not-frame_fits.false, ← (rw c.read-rows.ensures at c.all_rows_fit.ensures), c.if-not-all_rows_fit.true)
 
 pub all_owned-requires : goal.all_owned-requires
-all_owned-requires c = record { ranged = ranged (goal.at.all_owned-requires c).Else-not-all_rows_fit; roomy = roomy_in (rows_tested c.read_sections-s.result 512 (sym c.rows_within.ensures ∙ c.if-rows_within.true)) (search rules) }
+all_owned-requires c = record { ranged = ranged (goal.at.all_owned-requires c).Else-not-all_rows_fit; roomy = roomy_in (rows_tested c.read-rows.result.sections 512 (sym c.rows_within.ensures ∙ c.if-rows_within.true)) (search rules) }
 
 pub returns-then-rows_within : goal.returns-then-rows_within
 returns-then-rows_within c = c.all_owned.ensures ∙ sym (owners-left (goal.at.returns-then-rows_within c).Else-not-all_rows_fit)

@@ -5,20 +5,20 @@ use Prim.Native.Nat.{◌≤◌}
 use native.Mathlib.Nat.{le_trans}
 use native.Mathlib.Omega.{arith}
 use Rattle.image.specs.Record.{says}
-use Rattle.image.specs.Places.{file_in}
+use Rattle.image.specs.Places.{shelf_file}
 use Rattle.image.proofs.FileLaws.{fields_by}
 use Rattle.image.proofs.link_tests.all_field_links_fit.Goals as goal
-use Rattle.image.proofs.link_tests.all_field_links_fit.Goals.{After-read_sections-s}
+use Rattle.image.proofs.link_tests.all_field_links_fit.Goals.{After-read}
 
-count : (c : After-read_sections-s) → c.read_sections-s.result.fields.count ≡ (says (file_in c.args.words.now c.args.bytes.now c.args.p c.args.f)).fields
-count c = fields_by (file_in c.args.words.now c.args.bytes.now c.args.p c.args.f) c.file_image.ensures c.read_sections-s.ensures refl
+count : (c : After-read) → c.read.result.fields.count ≡ (says (shelf_file c.args.shelf.now c.args.f)).fields
+count c = fields_by (shelf_file c.args.shelf.now c.args.f) c.image.ensures c.read.ensures refl
 
 pub listed_links_fit-requires : goal.listed_links_fit-requires
 listed_links_fit-requires c =
-    let few : (says (file_in c.args.words.now c.args.bytes.now c.args.p c.args.f)).fields ≤ 128 = omega (arith, count (goal.at.listed_links_fit-requires c).After-read_sections-s, c.if-s-le128.true) in
-    record { f_bound = c.requires.f_bound; sound = c.requires.sound; own_value = c.requires.own_value; f_in_bounds = le_trans few (search rules); f_in_bounds_2 = le_trans few (search rules) }
+    let few : (says (shelf_file c.args.shelf.now c.args.f)).fields ≤ 128 = omega (arith, count (goal.at.listed_links_fit-requires c).After-read) in
+    record { f_bound = c.requires.f_bound; sound = c.requires.sound; own_value = c.requires.own_value; homes_in_bounds = le_trans few (search rules); holders_in_bounds = le_trans few (search rules) }
 
 pub listed_links_fit-requires-2 : goal.listed_links_fit-requires-2
 listed_links_fit-requires-2 c =
     let most = c.requires.sound.few_fields in
-    record { f_bound = c.requires.f_bound; sound = c.requires.sound; own_value = c.requires.own_value; f_in_bounds = le_trans most (search rules); f_in_bounds_2 = le_trans most (search rules) }
+    record { f_bound = c.requires.f_bound; sound = c.requires.sound; own_value = c.requires.own_value; homes_in_bounds = le_trans most (search rules); holders_in_bounds = le_trans most (search rules) }

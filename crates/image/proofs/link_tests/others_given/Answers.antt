@@ -5,4 +5,4 @@ use Rattle.image.proofs.link_tests.others_given.Goals as goal
 
 pub returns : goal.returns
 returns c = let a = c.args in
-    c.same_part.ensures ∙ sym (others_in a.image.now a.s a.pool.now a.links.now c.requires)
+    c.same_part.ensures ∙ sym (others_in a.image.now.rows.words.now a.image.now.rows.sections a.image.now.pool.now a.links.now c.requires)

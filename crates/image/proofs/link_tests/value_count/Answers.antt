@@ -1,9 +1,13 @@
 -- `image::link_tests::value_count` meets its contract. Assumes nothing.
+use mathlib.Core.Path.{ap}
 use Rattle.image.specs.LinkTests.{file_by}
-use Rattle.image.specs.Places.{files_in}
-use Rattle.image.proofs.FileLaws.{values_by}
+use Rattle.image.specs.Places.{shelf_files}
+use Rattle.image.specs.Record.{File}
+use Rattle.image.proofs.FileLaws.{reads_file, values_by}
 use Rattle.image.proofs.link_tests.value_count.Goals as goal
 
 pub returns : goal.returns
-returns c = let a = c.args in
-    values_by (file_by (files_in a.words.now a.bytes.now a.p a.n) a.word) c.image_by-image.ensures c.read_sections-s.ensures c.pool_by-pool.ensures c.links_by-links.ensures a.e.0 c.enum_row.ensures c.values_of-g.ensures
+returns c =
+    let file : File = file_by (shelf_files c.args.shelf.now c.args.n) c.args.word in
+    let r = reads_file file c.file_by-file.result c.read-image.ensures c.file_by-file.ensures in
+    values_by file r.words r.sections r.pool (ap (λ (x : File). x.links) c.file_by-file.ensures) c.args.e.0 c.enum_row.ensures c.values_of-g.ensures

@@ -14,15 +14,15 @@ use Rattle.image.proofs.OneofLaws.{counted_rows}
 use Rattle.image.proofs.links.put_oneof_links.Goals as goal
 use Rattle.image.proofs.links.put_oneof_links.Goals.{After-oneofs_of-g}
 
-own : (c : After-oneofs_of-g) → c.oneofs_of-g.result.count ≡ ((schema_in c.args.image.now c.args.s c.args.pool.now).oneofs_in c.args.row.0).count
+own : (c : After-oneofs_of-g) → c.oneofs_of-g.result.count ≡ ((schema_in c.args.image.now.rows.words.now c.args.image.now.rows.sections c.args.image.now.pool.now).oneofs_in c.args.row.0).count
 own c =
     let a = c.args in
-    ap (λ (x : Range). x.count) (c.oneofs_of-g.ensures ∙ oneofs_in_lem a.image.now a.s a.pool.now a.row.0)
+    ap (λ (x : Range). x.count) (c.oneofs_of-g.ensures ∙ oneofs_in_lem a.image.now.rows.words.now a.image.now.rows.sections a.image.now.pool.now a.row.0)
 
 pub returns-then-g-eq0 : goal.returns-then-g-eq0
 returns-then-g-eq0 c = let a = c.args in
-    let row : ℕ → List ℕ = oneof_row (schema_in c.args.image.now c.args.s c.args.pool.now) a.m.0 a.row.0 in
-    let e : ((schema_in c.args.image.now c.args.s c.args.pool.now).oneofs_in a.row.0).count ≡ 0 = omega (arith, own (goal.at.returns-then-g-eq0 c).After-oneofs_of-g, c.if-g-eq0.true) in
+    let row : ℕ → List ℕ = oneof_row (schema_in c.args.image.now.rows.words.now c.args.image.now.rows.sections c.args.image.now.pool.now) a.m.0 a.row.0 in
+    let e : ((schema_in c.args.image.now.rows.words.now c.args.image.now.rows.sections c.args.image.now.pool.now).oneofs_in a.row.0).count ≡ 0 = omega (arith, own (goal.at.returns-then-g-eq0 c).After-oneofs_of-g, c.if-g-eq0.true) in
     sym (ap (λ (n : ℕ). splice a.links.now a.at (run row 0 n)) e ∙ ap (splice a.links.now a.at) (run_none row 0) ∙ splice_nil a.links.now a.at)
 
 pub put_counted-requires : goal.put_counted-requires
@@ -33,5 +33,5 @@ returns c = let put = c.put_counted in
     let count = c.count_members in
     let a = c.args in
     put.ensures
-    ∙ ap (splice a.links.now a.at) (counted_rows (schema_in c.args.image.now c.args.s c.args.pool.now) a.m.0 a.row.0 c.oneofs_of-g.result.count _ _ (omega (arith, own (goal.at.returns c).After-oneofs_of-g, c.requires.row_bound)) count.ensures.members_after count.ensures.optionals_after)
-    ∙ ap (λ (n : ℕ). splice a.links.now a.at (run (oneof_row (schema_in c.args.image.now c.args.s c.args.pool.now) a.m.0 a.row.0) 0 n)) (own (goal.at.returns c).After-oneofs_of-g)
+    ∙ ap (splice a.links.now a.at) (counted_rows (schema_in c.args.image.now.rows.words.now c.args.image.now.rows.sections c.args.image.now.pool.now) a.m.0 a.row.0 c.oneofs_of-g.result.count _ _ (omega (arith, own (goal.at.returns c).After-oneofs_of-g, c.requires.row_bound)) count.ensures.members_after count.ensures.optionals_after)
+    ∙ ap (λ (n : ℕ). splice a.links.now a.at (run (oneof_row (schema_in c.args.image.now.rows.words.now c.args.image.now.rows.sections c.args.image.now.pool.now) a.m.0 a.row.0) 0 n)) (own (goal.at.returns c).After-oneofs_of-g)

@@ -3,7 +3,4 @@ use Rattle.image.proofs.ShelfLaws.{shelf_in, Walking}
 use Rattle.image.proofs.shelf.walk_back.Given as goal
 
 abbrev pub invariant-loop-k : goal.invariant-loop-k
-invariant-loop-k l = Walking l.words l.bytes l.initial.k (shelf_in l.words l.bytes l.initial.w l.initial.b) l.k l.w l.b l.starts l.images l.pools l.lengths
-
-abbrev pub decreases-loop-k : goal.decreases-loop-k
-decreases-loop-k l = l.k
+invariant-loop-k l = Walking l.words l.bytes l.initial.k (shelf_in l.words l.bytes l.initial.w l.initial.b) l.k l.w l.b l.files

@@ -1,6 +1,6 @@
 -- `image::siblings::shares_name_seen` meets its contract: no item before the present one has a twin, and each has left its mark; rule 8 is that
 -- none has a twin. Assumes nothing.
-use Prim.Native.Nat.{ℕ, ◌-◌, ◌≤◌}
+use Prim.Native.Nat.{ℕ}
 use mathlib.Core.Path.{◌≡◌}
 use mathlib.Core.Bool.{Bool, false}
 use mathlib.Core.List.{List}
@@ -19,7 +19,4 @@ twin image s pool links i = any_below i (siblings (schema_in image s pool) links
 
 abbrev pub invariant-loop-i : goal.invariant-loop-i
 invariant-loop-i l =
-    (l.i ≤ l.n) × (any_below l.i (twin l.image l.s l.pool l.links) ≡ false) × Marked (ItemSeen (schema_in l.image l.s l.pool) l.links) (length l.initial.seen) l.seen l.i
-
-abbrev pub decreases-loop-i : goal.decreases-loop-i
-decreases-loop-i l = l.n - l.i
+    (any_below l.i (twin l.image.rows.words.now l.image.rows.sections l.image.pool.now l.links) ≡ false) × Marked (ItemSeen (schema_in l.image.rows.words.now l.image.rows.sections l.image.pool.now) l.links) (length l.initial.seen) l.seen l.i

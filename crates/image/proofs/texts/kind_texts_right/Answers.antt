@@ -1,32 +1,15 @@
--- `image::texts::kind_texts_right` meets its contract: the texts of all rows before the present one are right. Assumes nothing.
-use native.Mathlib.Omega.{arith}
-use mathlib.Core.Path.{◌≡◌, sym, ◌∙◌}
+-- `image::texts::kind_texts_right` meets its contract. Assumes nothing.
+use Rattle.std.proofs.Common.{rules, tests, ◌≡◌}
 use Rattle.lists.specs.Below.{all_below}
-use Rattle.image.specs.Texts.{kind_texts_right, row_texts_right}
+use Rattle.lists.proofs.StdLaws.{all_of_range}
 use Rattle.image.specs.Words.{row_at}
-use Rattle.image.proofs.SearchLaws.{passing_end, passing_fails, passing_more, passing_start}
+use Rattle.image.specs.Texts.{kind_texts_right, row_texts_right}
 use Rattle.image.proofs.texts.kind_texts_right.Goals as goal
-use Rattle.image.proofs.texts.kind_texts_right.Goals.{After-count_of-n, After-row_texts_right}
-
-tested : (c : After-row_texts_right) → c.row_texts_right.result ≡ row_texts_right c.args.image.now c.args.pool.now c.args.kind (row_at c.args.s c.args.kind c.loop-r.r)
-tested c = rw c.row_at.ensures.0 at c.row_texts_right.ensures
-
--- the count that was read is that of the kind
-whole : (c : After-count_of-n) → kind_texts_right c.args.image.now c.args.s c.args.pool.now c.args.kind ≡ all_below c.count_of-n.result (λ i. row_texts_right c.args.image.now c.args.pool.now c.args.kind (row_at c.args.s c.args.kind i))
-unfolding kind_texts_right
-whole c = rw c.count_of-n.ensures
-
-pub loop-r-init : goal.loop-r-init
-loop-r-init c = passing_start c.count_of-n.result (λ i. row_texts_right c.args.image.now c.args.pool.now c.args.kind (row_at c.args.s c.args.kind i))
-
-pub row_texts_right-requires : goal.row_texts_right-requires
-row_texts_right-requires c = omega (arith, c.row_at.ensures.1)
-
-pub returns-then-not-row_texts_right : goal.returns-then-not-row_texts_right
-returns-then-not-row_texts_right c = passing_fails c.loop-r.invariant c.loop-r-test.true (sym (tested (goal.at.returns-then-not-row_texts_right c).After-row_texts_right) ∙ c.if-not-row_texts_right.true) ∙ sym (whole (goal.at.returns-then-not-row_texts_right c).After-count_of-n)
-
-pub loop-r-preserved : goal.loop-r-preserved
-loop-r-preserved c = passing_more c.loop-r.invariant c.loop-r-test.true (sym (tested (goal.at.loop-r-preserved c).After-row_texts_right) ∙ c.if-not-row_texts_right.false)
 
 pub returns : goal.returns
-returns c = passing_end c.loop-r.invariant c.loop-r-test.false ∙ sym (whole (goal.at.returns c).After-count_of-n)
+unfolding kind_texts_right
+returns c = let a = c.args in
+    let i = a.image.now in
+    let h : c.all.result ≡ all_below c.count_of-n.result (λ r. row_texts_right i.rows.words.now i.pool.now a.kind (row_at i.rows.sections a.kind r)) =
+    all_of_range _ _ _ _ _ c.all.ensures.ran (λ x b q k. search (rules, tests)) in
+    rw c.count_of-n.ensures at h

@@ -8,7 +8,4 @@ use Rattle.image.specs.declared.rows.Kind.TheVariants.{Value}
 use Rattle.image.proofs.values.value_by_name.Given as goal
 
 abbrev pub invariant-loop-k : goal.invariant-loop-k
-invariant-loop-k l = Returning l.g.count (λ i. same (text_of l.image l.pool (row_at l.s Value (l.g.first + i))) l.text) l.k
-
-abbrev pub decreases-loop-k : goal.decreases-loop-k
-decreases-loop-k l = l.k
+invariant-loop-k l = Returning l.g.count (λ i. same (text_of l.image.rows.words.now l.image.pool.now (row_at l.image.rows.sections Value (l.g.first + i))) l.text) l.k

@@ -7,7 +7,4 @@ use Rattle.image.specs.declared.rows.Kind.TheVariants.{Value}
 use Rattle.image.proofs.values.value_by_number.Given as goal
 
 abbrev pub invariant-loop-k : goal.invariant-loop-k
-invariant-loop-k l = Returning l.g.count (λ i. eqb (word_at l.image (number_at (row_at l.s Value (l.g.first + i)))) l.number) l.k
-
-abbrev pub decreases-loop-k : goal.decreases-loop-k
-decreases-loop-k l = l.k
+invariant-loop-k l = Returning l.g.count (λ i. eqb (word_at l.image.rows.words.now (number_at (row_at l.image.rows.sections Value (l.g.first + i)))) l.number) l.k

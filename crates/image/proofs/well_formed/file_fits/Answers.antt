@@ -7,55 +7,50 @@ use mathlib.Core.Bool.{true}
 use lib.ListN.{length, take}
 use lib.Seq.{length-take-le}
 use Rattle.lists.proofs.Cases.{and-true}
-use Rattle.image.specs.Schema.{Schema, schema_in, schema_of}
+use Rattle.image.specs.Schema.{Schema, schema_of}
 use Rattle.image.specs.Links.{links_of, link_words}
 use Rattle.image.specs.Record.{File, says}
 use Rattle.image.specs.LinkTests.{links_fit}
 use Rattle.image.specs.Shelf.{image_obeys, is_fresh, imports_named, file_fits}
-use Rattle.image.specs.Places.{file_in, files_in}
+use Rattle.image.specs.Places.{shelf_file, shelf_files}
 use Rattle.image.proofs.ObeyLaws.{sound_obeys}
 use Rattle.image.proofs.JudgeLaws.{words_in, links-few}
 use Rattle.image.proofs.FileLaws.{says_by}
 use Rattle.image.proofs.FileNameLaws.{files_more}
 use Rattle.image.proofs.well_formed.file_fits.Goals as goal
-use Rattle.image.proofs.well_formed.file_fits.Goals.{After-image_obeys, After-link_words-n, After-read_sections, Else-not-image_obeys, Else-not-imports_named, Else-not-is_fresh}
+use Rattle.image.proofs.well_formed.file_fits.Goals.{After-image_obeys, After-link_words-n, Else-not-image_obeys, Else-not-imports_named, Else-not-is_fresh}
 
-obeyed : (c : After-image_obeys) → c.image_obeys.result ≡ image_obeys (file_in c.args.words.now c.args.bytes.now c.args.p c.args.f).image (file_in c.args.words.now c.args.bytes.now c.args.p c.args.f).pool
+obeyed : (c : After-image_obeys) → let file = shelf_file c.args.shelf.now c.args.f in c.image_obeys.result ≡ image_obeys file.image file.pool
 obeyed c =
-    c.image_obeys.ensures.value
-    ∙ ap (λ (x : List ℕ). image_obeys x c.file_pool-pool.result.now) c.file_image-image.ensures
-    ∙ ap (image_obeys (file_in c.args.words.now c.args.bytes.now c.args.p c.args.f).image) c.file_pool-pool.ensures
+    let file = shelf_file c.args.shelf.now c.args.f in
+    c.image_obeys.ensures.value ∙ ap (λ (x : List ℕ). image_obeys x c.pool.result.now) c.image-image.ensures ∙ ap (image_obeys file.image) c.pool.ensures
 
 -- what the tests passed so far say
-obeys : (c : Else-not-image_obeys) → image_obeys (file_in c.args.words.now c.args.bytes.now c.args.p c.args.f).image (file_in c.args.words.now c.args.bytes.now c.args.p c.args.f).pool ≡ true
+obeys : (c : Else-not-image_obeys) → let file = shelf_file c.args.shelf.now c.args.f in image_obeys file.image file.pool ≡ true
 obeys c = sym (obeyed (goal.at.Else-not-image_obeys c).After-image_obeys) ∙ c.if-not-image_obeys.false
 
-fresh : (c : Else-not-is_fresh) → is_fresh (files_in c.args.words.now c.args.bytes.now c.args.p c.args.f) (file_in c.args.words.now c.args.bytes.now c.args.p c.args.f) ≡ true
+fresh : (c : Else-not-is_fresh) → is_fresh (shelf_files c.args.shelf.now c.args.f) (shelf_file c.args.shelf.now c.args.f) ≡ true
 fresh c = sym c.is_fresh.ensures ∙ c.if-not-is_fresh.false
 
-named : (c : Else-not-imports_named) →
-    imports_named (files_in c.args.words.now c.args.bytes.now c.args.p c.args.f) (file_in c.args.words.now c.args.bytes.now c.args.p c.args.f) ≡ true
+named : (c : Else-not-imports_named) → imports_named (shelf_files c.args.shelf.now c.args.f) (shelf_file c.args.shelf.now c.args.f) ≡ true
 named c = sym c.imports_named.ensures ∙ c.if-not-imports_named.false
 
 -- the link rows in front of `own` are those that the image gives
-said : (c : After-read_sections) →
-    schema_in c.file_image-image.result.now c.read_sections.result c.file_pool-pool.result.now ≡ says (file_in c.args.words.now c.args.bytes.now c.args.p c.args.f)
-said c =
-    says_by (file_in c.args.words.now c.args.bytes.now c.args.p c.args.f) c.file_image-image.ensures c.read_sections.ensures c.file_pool-pool.ensures
-
-counted : (c : After-link_words-n) → c.link_words-n.result ≡ link_words (says (file_in c.args.words.now c.args.bytes.now c.args.p c.args.f))
+counted : (c : After-link_words-n) → c.link_words-n.result ≡ link_words (says (shelf_file c.args.shelf.now c.args.f))
 counted c =
-    c.link_words-n.ensures ∙ sym (words_in c.file_image-image.result.now c.read_sections.result c.file_pool-pool.result.now) ∙ ap link_words (said (goal.at.After-link_words-n c).After-read_sections)
+    let file = shelf_file c.args.shelf.now c.args.f in
+    c.link_words-n.ensures ∙ sym (words_in c.image-image.result.now c.read.result c.pool.result.now) ∙ ap link_words (says_by file c.image-image.ensures c.read.ensures c.pool.ensures)
 
 room : (c : After-link_words-n) → c.link_words-n.result ≤ length c.image_obeys.new.own
 room c =
-    let ok = sound_obeys (file_in c.args.words.now c.args.bytes.now c.args.p c.args.f).image (file_in c.args.words.now c.args.bytes.now c.args.p c.args.f).pool (obeys (goal.at.After-link_words-n c).Else-not-image_obeys) in
-    omega (arith, counted c, links-few (says (file_in c.args.words.now c.args.bytes.now c.args.p c.args.f)) ok, c.requires.in_bounds, c.image_obeys.auto.own)
+    let file = shelf_file c.args.shelf.now c.args.f in
+    let ok = sound_obeys file.image file.pool (obeys (goal.at.After-link_words-n c).Else-not-image_obeys) in
+    omega (arith, counted c, links-few (says file) ok, c.requires.in_bounds, c.image_obeys.auto.own)
 
-own-rows : (c : After-link_words-n) →
-    take c.link_words-n.result c.image_obeys.new.own ≡ links_of (says (file_in c.args.words.now c.args.bytes.now c.args.p c.args.f))
+own-rows : (c : After-link_words-n) → take c.link_words-n.result c.image_obeys.new.own ≡ links_of (says (shelf_file c.args.shelf.now c.args.f))
 own-rows c =
-    let e : schema_of c.file_image-image.result.now c.file_pool-pool.result.now ≡ says (file_in c.args.words.now c.args.bytes.now c.args.p c.args.f) = ap (λ (x : List ℕ). schema_of x c.file_pool-pool.result.now) c.file_image-image.ensures ∙ ap (schema_of (file_in c.args.words.now c.args.bytes.now c.args.p c.args.f).image) c.file_pool-pool.ensures in
+    let file = shelf_file c.args.shelf.now c.args.f in
+    let e : schema_of c.image-image.result.now c.pool.result.now ≡ says file = ap (λ (x : List ℕ). schema_of x c.pool.result.now) c.image-image.ensures ∙ ap (schema_of file.image) c.pool.ensures in
     rw (counted c) (subst (λ (g : Schema). take (link_words g) c.image_obeys.new.own ≡ links_of g) e (c.image_obeys.ensures.own_after (c.if-not-image_obeys.false)))
 
 pub image_obeys-requires : goal.image_obeys-requires
@@ -80,11 +75,16 @@ pub slice_bounds-links_fit-end-2 : goal.slice_bounds-links_fit-end-2
 slice_bounds-links_fit-end-2 c = sym (length-take-le c.link_words-n.result c.image_obeys.new.own (room (goal.at.slice_bounds-links_fit-end-2 c).After-link_words-n))
 
 pub links_fit-requires : goal.links_fit-requires
-links_fit-requires c = record { f_bound = c.requires.f_bound; sound = sound_obeys (file_in c.args.words.now c.args.bytes.now c.args.p c.args.f).image (file_in c.args.words.now c.args.bytes.now c.args.p c.args.f).pool (obeys (goal.at.links_fit-requires c).Else-not-image_obeys); own_value = own-rows (goal.at.links_fit-requires c).After-link_words-n }
+links_fit-requires c =
+    let file = shelf_file c.args.shelf.now c.args.f in
+    let at = goal.at.links_fit-requires c in
+    record { f_bound = c.requires.f_bound; sound = sound_obeys file.image file.pool (obeys at.Else-not-image_obeys); own_value = own-rows at.After-link_words-n }
 
 pub returns : goal.returns
 unfolding file_fits
-returns c = let a = c.args in
+returns c =
+    let s = c.args.shelf.now in
+    let at = goal.at.returns c in
     c.links_fit.ensures
-    ∙ ap (λ (l : List File). links_fit l (file_in c.args.words.now c.args.bytes.now c.args.p c.args.f)) (files_more a.words.now a.bytes.now a.p a.f)
-    ∙ sym (simp (obeys (goal.at.returns c).Else-not-image_obeys, fresh (goal.at.returns c).Else-not-is_fresh, named (goal.at.returns c).Else-not-imports_named, and-true))
+    ∙ ap (λ (l : List File). links_fit l (shelf_file s c.args.f)) (files_more s.words.now s.bytes.now s.places c.args.f)
+    ∙ sym (simp (obeys at.Else-not-image_obeys, fresh at.Else-not-is_fresh, named at.Else-not-imports_named, and-true))

@@ -10,13 +10,10 @@ use Rattle.image.proofs.well_formed.files_fit.Goals as goal
 pub returns-then-n-eq0 : goal.returns-then-n-eq0
 unfolding files_fit
 returns-then-n-eq0 c = let a = c.args in
-    passing_end (passing_start a.n (fits a.words.now a.bytes.now a.p)) (omega (arith, c.if-n-eq0.true))
+    passing_end (passing_start a.n (fits a.shelf.now)) (omega (arith, c.if-n-eq0.true))
 
 pub loop-f-init : goal.loop-f-init
-loop-f-init c = let a = c.args in (search rules, passing_start a.n (fits a.words.now a.bytes.now a.p))
-
-pub slice_bounds-file_fits-end : goal.slice_bounds-file_fits-end
-slice_bounds-file_fits-end c = sym c.loop-f.invariant.0
+loop-f-init c = let a = c.args in (search rules, passing_start a.n (fits a.shelf.now))
 
 pub file_fits-requires : goal.file_fits-requires
 file_fits-requires c = record { f_bound = omega (arith, c.loop-f-test.true, c.requires); in_bounds = omega (arith, c.loop-f.invariant.0) }
@@ -25,15 +22,9 @@ pub returns-then-not-file_fits : goal.returns-then-not-file_fits
 unfolding files_fit
 returns-then-not-file_fits c = passing_fails c.loop-f.invariant.1 c.loop-f-test.true (sym c.file_fits.ensures ∙ c.if-not-file_fits.true)
 
-pub overflow_add-f : goal.overflow_add-f
-overflow_add-f c = omega (arith, c.loop-f-test.true)
-
-pub loop-f-smaller : goal.loop-f-smaller
-loop-f-smaller c = omega (arith, c.loop-f-test.true)
-
 pub loop-f-preserved : goal.loop-f-preserved
 loop-f-preserved c = (c.file_fits.auto.own ∙ c.loop-f.invariant.0, passing_more c.loop-f.invariant.1 c.loop-f-test.true (sym c.file_fits.ensures ∙ c.if-not-file_fits.false))
 
 pub returns : goal.returns
 unfolding files_fit
-returns c = passing_end c.loop-f.invariant.1 c.loop-f-test.false
+returns c = passing_end c.loop-f.invariant.1 (omega (arith, c.loop-f.auto.f-end))

@@ -1,7 +1,0 @@
--- `image::full_name::message_name` meets its contract. Assumes nothing.
-use Rattle.image.specs.Schema.{schema_in}
-use Rattle.image.proofs.full_name.message_name.Goals as goal
-
-pub returns : goal.returns
-unfolding schema_in
-returns c = rw (← c.message_row-row.ensures, ← c.row_at.ensures.0) c.text_of.ensures

@@ -1,0 +1,5 @@
+-- `image::rows::Sections::count_of` meets its contract. Assumes nothing.
+use Rattle.image.proofs.rows.Sections.count_of.Goals as goal
+
+pub returns : goal.returns
+returns c = rw c.section_of-section.ensures

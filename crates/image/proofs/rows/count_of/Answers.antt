@@ -1,5 +1,0 @@
--- `image::rows::count_of` meets its contract. Assumes nothing.
-use Rattle.image.proofs.rows.count_of.Goals as goal
-
-pub returns : goal.returns
-returns c = rw c.section_of-section.ensures

@@ -1,5 +1,0 @@
--- `image::rows::field_row` meets its contract. Assumes nothing.
-use Rattle.image.proofs.rows.field_row.Goals as goal
-
-pub returns : goal.returns
-returns c = rw (← c.row_at.ensures.0) c.field_row_at.ensures

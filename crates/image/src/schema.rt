@@ -1,0 +1,39 @@
+// An image with the pool of its texts: what the rules of names, fields, enums and oneofs read.
+ghost use Rattle.std.specs.Prelude.{◌≡◌};
+ghost use Rattle.image.specs.Words.{row_at, sections_of};
+ghost use Rattle.image.specs.Texts.{text_of};
+
+use crate::rows::{Kind, Row, Rows};
+use crate::texts;
+
+#[derive(Clone, Copy)]
+pub struct Image<'a> {
+    pub rows: Rows<'a>,
+    pub pool: &'a [u8],
+}
+
+impl<'a> Image<'a> {
+    // The words of an image with the sections that its trailer tells, and its pool.
+    pub fn read(words: &'a [u32], pool: &'a [u8]) -> Image<'a>
+        ensures { result ≡ record { rows = record { words = words.entry; sections = sections_of words.now }; pool = pool.entry } }
+    {
+        Image {
+            rows: Rows::read(words),
+            pool,
+        }
+    }
+
+    // The text whose start and length stand at word `at`, as far as the pool goes.
+    pub fn text_at(&self, at: usize) -> &'a [u8]
+        ensures { result.now ≡ text_of self.now.rows.words.now self.now.pool.now at }
+    {
+        texts::text_of(self.rows.words, self.pool, at)
+    }
+
+    // The text that a row of a kind starts with: its name, or an import's file name.
+    pub fn name_of(&self, kind: Kind, row: Row) -> &'a [u8]
+        ensures { result.now ≡ text_of self.now.rows.words.now self.now.pool.now (row_at self.now.rows.sections kind row.0) }
+    {
+        self.text_at(self.rows.sections.row_at(kind, row))
+    }
+}
