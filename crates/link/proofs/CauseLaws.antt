@@ -6,13 +6,11 @@ use Prim.Native.Nat.{ℕ, ◌+◌, ◌-◌, ◌*◌, ◌<◌, ◌≤◌}
 use native.Mathlib.Nat.{zero-add}
 use native.Mathlib.Omega.{arith}
 use lib.Dec.{eqb, ltb, leb}
-use lib.ListN.{length, get_or, set, length-set, replicate, length-replicate, get_or-replicate}
+use lib.ListN.{length, get_or, replicate, length-replicate, get_or-replicate}
 use lib.Seq.{get_or-take}
 use borrow.Author.Tests.{eq-eqb, ne_eqb, lt-ltb, le-ltb, le-leb, lt-leb}
 use Rattle.lists.specs.Below.{bit, any_below}
 use Rattle.lists.specs.Lists.{table}
-use Rattle.lists.proofs.Cases.{equal, order}
-use Rattle.lists.proofs.BelowLaws.{any_below_hit}
 use Rattle.lists.proofs.TableLaws.{length_table, get_or_table}
 use Rattle.image.specs.Words.{word_at, fields_of, extension_ranges_at, row_at, trailer_word}
 use Rattle.image.specs.Schema.{Schema, schema_in}
@@ -30,19 +28,9 @@ use Rattle.image.proofs.FileLaws.{by_word}
 use Rattle.image.proofs.FieldLaws.{says}
 use Rattle.image.proofs.LinkLaws.{run_word}
 use Rattle.image.proofs.FieldListLaws.{field_count_lem, field_parts}
-use Rattle.image.proofs.SearchLaws.{Searching}
 use Rattle.link.specs.Marks.{is_marked, message_refers, own_cause}
 use Rattle.link.specs.Edges.{rows_refer, has_cause}
-use Rattle.link.proofs.TurnLaws.{All, all_set, all_keep}
-
--- ---- a search for any
-
-module _ {n : ℕ} {p : ℕ → Bool} {j : ℕ} (h : Searching n p j) where
-  pub any_here : j < n → p j ≡ true → true ≡ any_below n p
-  any_here l e = sym (any_below_hit n p j l e)
-
-  pub any_nowhere : n ≤ j → false ≡ any_below n p
-  any_nowhere l = let e : j ≡ n = omega (arith, h.most) in sym (rw e at h.without)
+use Rattle.link.proofs.TurnLaws.{All}
 
 -- ---- marked messages of n files
 
@@ -153,19 +141,6 @@ pub record Marking (f : ℕ → Bool) (n m : ℕ) (d : List ℕ) : Type 0 where
   pub len : length d ≡ 256
   pub words : All d (marked f m)
 
-module _ (f : ℕ → Bool) where
-  same_other : (m j : ℕ) → (j ≡ m → ⊥) → marked f (m + 1) j ≡ marked f m j
-  same_other m j e =
-      order j m
-      (λ l. rw (lt-ltb j m l, lt-ltb j (m + 1) (omega arith)))
-      (λ l. rw (le-ltb j m l, le-ltb j (m + 1) (omega arith)))
-
-  same_here : (m : ℕ) → marked f (m + 1) m ≡ bit (f m)
-  same_here m = rw (lt-ltb m (m + 1) (omega arith))
-
-  same_before : (m : ℕ) → marked f m m ≡ 0
-  same_before m = rw (le-ltb m m (omega arith))
-
 module _ {f : ℕ → Bool} where
   pub marking_start : (n : ℕ) → Marking f n 0 (replicate 256 0)
   marking_start n =
@@ -174,25 +149,6 @@ module _ {f : ℕ → Bool} where
         len = length-replicate {A = ℕ} 256 0;
         words = λ j l. get_or-replicate {A = ℕ} 256 j 0 0 l ∙ sym (ap (λ (b : Bool). bit (b && f j)) (le-ltb j 0 (omega arith)));
       }
-
-  pub marking_hit : {n m : ℕ} {d d' : List ℕ} → n ≤ 256 → Marking f n m d → m < n → f m ≡ true → d' ≡ set d m 1 → Marking f n (m + 1) d'
-  marking_hit {n} {m} {d} {d'} few t l e q =
-      rw q
-      (record {
-        at = omega arith;
-        len = length-set d m 1 ∙ t.len;
-        words = all_set d (marked f m) (marked f (m + 1)) m 1 t.len (omega arith) t.words (same_here f m ∙ ap bit e) (λ j x. same_other f m j x);
-      })
-
-  pub marking_miss : {n m : ℕ} {d d' : List ℕ} → Marking f n m d → m < n → f m ≡ false → d' ≡ d → Marking f n (m + 1) d'
-  marking_miss {n} {m} {d} {d'} t l e q =
-      rw q
-      (record {
-        at = omega arith;
-        len = t.len;
-        words = all_keep d (marked f m) (marked f (m + 1)) t.words
-            (λ j. equal j m (λ x. rw x (same_here f m ∙ ap bit e ∙ sym (same_before f m))) (λ x. same_other f m j x));
-      })
 
   pub marking_end : {n m : ℕ} {d : List ℕ} → n ≤ 256 → Marking f n m d → n ≤ m → (i : ℕ) → i < n → get_or d i 0 ≡ bit (f i)
   marking_end {n} {m} few t l i h =

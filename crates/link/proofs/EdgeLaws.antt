@@ -8,9 +8,9 @@ use native.Mathlib.Omega.{arith}
 use lib.Dec.{eqb}
 use lib.ListN.{length, get_or, set, length-set}
 use lib.Seq.{get_or-set_same, get_or-set_other}
-use borrow.Author.Tests.{eq-eqb, ne_eqb}
+use borrow.Author.Tests.{eq-eqb}
 use Rattle.lists.specs.Below.{any_below}
-use Rattle.lists.proofs.Cases.{order, and-false, or-false, or_assoc}
+use Rattle.lists.proofs.Cases.{order, and-false, or_assoc}
 use Rattle.lists.proofs.BelowLaws.{any_below_start, any_below_agree}
 use Rattle.image.specs.Schema.{Schema}
 use Rattle.image.specs.Record.{field_link_of, link_row}
@@ -24,12 +24,6 @@ use Rattle.link.specs.Edges.{from, to, has_edge, rows_refer, is_in, refers_below
 spread : (h a b : Bool) → (h && (b || a)) ≡ ((h && b) || (h && a))
 spread true a b = refl
 spread false a b = refl
-
-or_swap : (a b : Bool) → (a || b) ≡ (b || a)
-or_swap true true = refl
-or_swap true false = refl
-or_swap false true = refl
-or_swap false false = refl
 
 none : (h b : Bool) → b ≡ false → (h && b) ≡ false
 none h b e = ap (λ (x : Bool). h && x) e ∙ and-false h
@@ -126,23 +120,6 @@ abbrev pub type_new : ℕ → ℕ → ℕ → ℕ → ℕ → ℕ → ℕ → Bo
 type_new home own t word index i j = eqb home i && (is_message_type t && is_in own j word index)
 
 module _ (es : List ℕ) (m home n own t word index : ℕ) where
-  pub skip_type : is_message_type t ≡ false → Pushed es m es m n 1 (type_new home own t word index)
-  skip_type e =
-      pushed_not es m n 1 (type_new home own t word index)
-      (λ i j l. none (eqb home i) (is_message_type t && is_in own j word index) (ap (λ (b : Bool). b && is_in own j word index) e))
-
-  pub skip_file : (word ≡ own → ⊥) → Pushed es m es m n 1 (type_new home own t word index)
-  skip_file e =
-      pushed_not es m n 1 (type_new home own t word index)
-      (λ i j l. none (eqb home i) (is_message_type t && is_in own j word index)
-      (none (is_message_type t) (is_in own j word index) (ap (λ (b : Bool). b && eqb index j) (ne_eqb word own e))))
-
-  pub skip_past : n ≤ index → Pushed es m es m n 1 (type_new home own t word index)
-  skip_past h =
-      pushed_not es m n 1 (type_new home own t word index)
-      (λ i j l. none (eqb home i) (is_message_type t && is_in own j word index)
-      (none (is_message_type t) (is_in own j word index) (none (eqb word own) (eqb index j) (ne_eqb index j (λ e. absurd (omega arith))))))
-
   pub put_one : {es' : List ℕ} → is_message_type t ≡ true → word ≡ own → index < n → home < n → 2 * m + 2 ≤ length es
       → es' ≡ set (set es (2 * m) home) (2 * m + 1) index → Pushed es m es' (m + 1) n 1 (type_new home own t word index)
   put_one {es'} et ew il hl room put =
@@ -151,47 +128,10 @@ module _ (es : List ℕ) (m home n own t word index : ℕ) where
       ap (λ (b : Bool). eqb home i && (b && is_in own j word index)) et
       ∙ ap (λ (b : Bool). eqb home i && (b && eqb index j)) (eq-eqb word own ew))
 
--- ---- a row
+-- ---- the rows of a message
 
 abbrev pub row_new : ℕ → ℕ → List ℕ → ℕ → ℕ → Bool
 row_new home own row i j = eqb home i && refers_to (field_link_of row) (is_in own j)
-
-module _ {a b : List ℕ} {m k n : ℕ} (home own : ℕ) (row : List ℕ) {t word index : ℕ} (et : t ≡ get_or row 6 0) (ew : word ≡ get_or row 7 0) (ei : index ≡ get_or row 8 0)
-    (one : Pushed a m b k n 1 (type_new home own t word index)) where
-  read : (i j : ℕ) → type_new home own t word index i j ≡ type_new home own (get_or row 6 0) (get_or row 7 0) (get_or row 8 0) i j
-  read i j =
-      ap (λ (x : ℕ). type_new home own x word index i j) et
-      ∙ ap (λ (x : ℕ). type_new home own (get_or row 6 0) x index i j) ew
-      ∙ ap (λ (x : ℕ). type_new home own (get_or row 6 0) (get_or row 7 0) x i j) ei
-
-  -- no map
-  pub row_one : (get_or row 5 0 ≡ 2 → ⊥) → Pushed a m b k n 2 (row_new home own row)
-  row_one e =
-      pushed_as 2 (row_new home own row) one (omega arith)
-      (λ i j l.
-      let x = is_message_type (get_or row 6 0) && is_in own j (get_or row 7 0) (get_or row 8 0) in
-      let y = is_message_type (get_or row 9 0) && is_in own j (get_or row 10 0) (get_or row 11 0) in
-      ap (λ (s : Bool). eqb home i && (x || (s && y))) (ne_eqb (get_or row 5 0) 2 e)
-      ∙ ap (λ (s : Bool). eqb home i && s) (or-false x)
-      ∙ sym (read i j))
-
-  -- a map: its value's type too
-  pub row_two : {c : List ℕ} {l t₂ w₂ i₂ : ℕ} → get_or row 5 0 ≡ 2 → t₂ ≡ get_or row 9 0 → w₂ ≡ get_or row 10 0 → i₂ ≡ get_or row 11 0
-      → Pushed b k c l n 1 (type_new home own t₂ w₂ i₂) → Pushed a m c l n 2 (row_new home own row)
-  row_two {c} {l} {t₂} {w₂} {i₂} e e₁ e₂ e₃ two =
-      pushed_then 2 (row_new home own row) one two (omega arith)
-      (λ i j z.
-      let x = is_message_type (get_or row 6 0) && is_in own j (get_or row 7 0) (get_or row 8 0) in
-      let y = is_message_type (get_or row 9 0) && is_in own j (get_or row 10 0) (get_or row 11 0) in
-      ap (λ (s : Bool). eqb home i && (x || (s && y))) (eq-eqb (get_or row 5 0) 2 e)
-      ∙ ap (λ (s : Bool). eqb home i && s) (or_swap x y)
-      ∙ spread (eqb home i) x y
-      ∙ ap (λ (s : Bool). (eqb home i && y) || s) (sym (read i j))
-      ∙ ap (λ (s : ℕ). type_new home own s (get_or row 10 0) (get_or row 11 0) i j || type_new home own t word index i j) (sym e₁)
-      ∙ ap (λ (s : ℕ). type_new home own t₂ s (get_or row 11 0) i j || type_new home own t word index i j) (sym e₂)
-      ∙ ap (λ (s : ℕ). type_new home own t₂ w₂ s i j || type_new home own t word index i j) (sym e₃))
-
--- ---- the rows of a message
 
 abbrev pub rows_new : ℕ → ℕ → List ℕ → ℕ → ℕ → ℕ → ℕ → Bool
 rows_new home own rows first count i j = eqb home i && rows_refer rows first count (is_in own j)

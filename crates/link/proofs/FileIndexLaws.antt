@@ -2,12 +2,14 @@
 use mathlib.Core.Path.{◌≡◌, refl, sym, ap, ◌∙◌}
 use mathlib.Core.List.{List, [], ◌∷◌, ◌++◌}
 use mathlib.Core.Bool.{Bool, true, false, cond}
+use denote.Ref.{Bor}
 use Prim.Native.Nat.{ℕ, ◌+◌, ◌*◌, ◌<◌, ◌≤◌}
 use native.Mathlib.Nat.{zero-add, zero-mul, suc-mul}
 use native.Mathlib.Omega.{arith}
 use lib.Dec.{ltb}
 use lib.ListN.{length, get_or, length-append, get_or-append}
 use borrow.Author.Tests.{ltb-true}
+use Rattle.std.specs.Prelude.{Option, Some, None, Result, Ok, Err}
 use Rattle.lists.specs.Below.{first_below}
 use Rattle.lists.specs.Lists.{span, concat_map}
 use Rattle.lists.specs.Splice.{splice}
@@ -15,74 +17,65 @@ use Rattle.lists.proofs.Cases.{by}
 use Rattle.lists.proofs.SpanLaws.{concat-append}
 use Rattle.lists.proofs.SpliceLaws.{listed_all, splice_nil, splice-splice}
 use Rattle.lists.proofs.TableLaws.{get_or_table}
-use Rattle.names.specs.declared.runtime_type_box.DefaultRead.{DefaultRead}
-use Rattle.names.specs.declared.runtime_type_box.DefaultRead.TheVariants.{Integer, Text, ValueName, Unreadable, Unsupported}
+use Rattle.names.specs.Default.{DefaultRead}
+use Rattle.names.specs.declared.runtime_type_box.ReadDefault.TheVariants.{Integer, Text, ValueName}
 use Rattle.image.specs.Words.{sections_of, fields_of, extensions_of, file_extensions}
-use Rattle.image.specs.Schema.{Schema, FieldSays, schema_in, schema_of, field_of, field_row}
+use Rattle.image.specs.Schema.{Schema, FieldSays, schema, schema_in, schema_of, field_of, field_row}
 use Rattle.image.specs.Flat.{rows_of, row_of, field_rows, first_field}
 use Rattle.image.specs.Laid.{Sound}
 use Rattle.image.specs.Links.{message_link, message_links, enum_links, oneof_links, links_of}
 use Rattle.image.specs.Clash.{clashes_earlier, first_clash}
 use Rattle.image.specs.Record.{says, link_row, message_link_at}
-use Rattle.image.specs.Verdict.{Line, first, in_order}
-use Rattle.image.specs.declared.rows.Found.{Found}
-use Rattle.image.specs.declared.rows.Found.TheVariants.{At, Nothing}
+use Rattle.image.specs.Verdict.{Verdict, Line, first, judged, in_order}
 use Rattle.image.specs.declared.rows.Range.{Range}
+use Rattle.image.specs.declared.schema.Image.{Image}
 use Rattle.image.specs.declared.rows.Sections.{Sections}
-use Rattle.image.specs.declared.verdict.Refusal.{Refusal}
 use Rattle.image.specs.declared.verdict.Refusal.TheVariants.{FieldClash}
-use Rattle.image.specs.declared.verdict.Verdict.{Verdict}
-use Rattle.image.specs.declared.verdict.Verdict.TheVariants.{Passed, Stopped}
+use Rattle.image.specs.declared.verdict.Refused.{Refused}
 use Rattle.image.proofs.Numbers.{row_in}
 use Rattle.image.proofs.Owned.{fields_length, fields_end_lem, fields_next}
 use Rattle.image.proofs.LinkLaws.{run, run_none, run_word, run_length, run_put, message_links-length, Parts, Writing, parts_length, writing_start, writing_next, writing_end}
 use Rattle.image.proofs.FieldListLaws.{fields_start, fields_within}
-use Rattle.image.proofs.VerdictLaws.{first_append, order_start, order_more, order_stop}
+use Rattle.image.proofs.VerdictLaws.{order_start, order_more, order_stop}
 use Rattle.link.specs.Sight.{Sight}
 use Rattle.link.specs.Field.{is_map, map_part, is_given, default_record, named_default, default_read, has_extendee, extendee_part, type_part, default_part, default_lines, extendee_lines, type_lines, field_lines, field_words}
 use Rattle.link.specs.Rows.{field_links_in, field_links}
 use Rattle.link.specs.Refusals.{fields_lines, clash_at, message_lines, all_field_lines}
+use Rattle.link.proofs.JudgedLaws.{first_stops, first_passes, judged_stopped, judged_passed, judged_value, step_stops, step_passes}
 
 -- ---- 17
 
 module _ (g : Schema) (r at : ℕ) where
-  pub clash_hit : (j : ℕ) → At j ≡ first_clash g r → Stopped FieldClash (at + j) ≡ first (clash_at g r at)
+  pub clash_hit : (j : ℕ) → Some j ≡ first_clash g r → Err (record { refusal = FieldClash; place = at + j }) ≡ first (clash_at g r at)
   unfolding clash_at first
   clash_hit j e = rw (← e)
 
-  pub clash_none : Nothing ≡ first_clash g r → Passed ≡ first (clash_at g r at)
+  pub clash_none : None ≡ first_clash g r → Ok tt ≡ first (clash_at g r at)
   unfolding clash_at first
   clash_none e = rw (← e)
 
-at_place : (j k : ℕ) → ◌≡◌ {A = Found} (At j) (At k) → j ≡ k
+at_place : (j k : ℕ) → ◌≡◌ {A = Option ℕ} (Some j) (Some k) → j ≡ k
 at_place j k e = cc
 
-at_none : {C : Type 0} (j : ℕ) → ◌≡◌ {A = Found} (At j) Nothing → C
-at_none j e = absurd (let z : ◌≡◌ {A = ℕ} 0 1 = cc in omega arith)
+at_none : {C : Type 0} (j : ℕ) → ◌≡◌ {A = Option ℕ} (Some j) None → C
+at_none j e = cc
 
-found_below_lem : (n k j : ℕ) → At j ≡ cond (ltb k n) (At k) Nothing → j < n
+found_below_lem : (n k j : ℕ) → Some j ≡ cond (ltb k n) (Some k) None → j < n
 found_below_lem n k j e =
     by (ltb k n)
     (λ t. let q = at_place j k (rw t at e) in omega (arith, ltb-true k n t))
     (λ t. at_none j (rw t at e))
 
-pub clash_below : (g : Schema) (r j : ℕ) → At j ≡ first_clash g r → j < (g.fields_in r).count
+pub clash_below : (g : Schema) (r j : ℕ) → Some j ≡ first_clash g r → j < (g.fields_in r).count
 unfolding first_clash
 clash_below g r j e = found_below_lem (g.fields_in r).count (first_below (g.fields_in r).count (clashes_earlier g r) (g.fields_in r).count) j e
 
--- ---- verdicts
+-- ---- what an image says that was read, and what a row says, by its words
 
-pub not_passed : {C : Type 0} (r : Refusal) (p : ℕ) → Stopped r p ≡ Passed → C
-not_passed r p e = absurd (let z : ◌≡◌ {A = ℕ} 0 1 = cc in omega arith)
-
--- lines of which the first ones stop, or pass
-pub first_stops : (ls ms : List Line) (r : Refusal) (p : ℕ) → first ls ≡ Stopped r p → first (ls ++ ms) ≡ Stopped r p
-first_stops ls ms r p e = first_append ls ms ∙ rw e
-
-pub first_passes : (ls ms : List Line) → first ls ≡ Passed → first (ls ++ ms) ≡ first ms
-first_passes ls ms e = first_append ls ms ∙ rw e
-
--- ---- what a row says, by its words
+pub read_says : {x : Image} (words pool : Bor (List ℕ)) → x ≡ record { rows = record { words = words; sections = sections_of words.now }; pool = pool }
+    → schema x ≡ schema_of words.now pool.now
+unfolding schema_of
+read_says words pool e = rw e
 
 pub field_said : (image pool : List ℕ) {s : Sections} {words : List ℕ} (r : ℕ) → s ≡ sections_of image → words ≡ field_row image s r
     → field_of words pool ≡ (schema_of image pool).field r
@@ -112,12 +105,11 @@ file_said image pool h = h
 
 -- ---- link rows of fields have sixteen words
 
-default_three : (value : Found) (d : DefaultRead) → length (default_record value d) ≡ 3
-default_three value (Integer w) = refl
-default_three value (Text w) = refl
-default_three value ValueName = refl
-default_three value Unreadable = refl
-default_three value Unsupported = refl
+default_three : (value : Option ℕ) (d : DefaultRead) → length (default_record value d) ≡ 3
+default_three value (Ok (Integer w)) = refl
+default_three value (Ok (Text w)) = refl
+default_three value (Ok ValueName) = refl
+default_three value (Err r) = refl
 
 module _ (s : Sight) (list : List ℕ) (f : FieldSays) where
   pub default-length : length (default_part s list f) ≡ 3
@@ -143,24 +135,31 @@ module _ (s : Sight) (list : List ℕ) (f : FieldSays) where
 
 -- ---- one field: default, extendee, type
 
-module _ (s : Sight) (list : List ℕ) (f : FieldSays) (ofFile : Bool) (at : ℕ) {d : Verdict} (is_default : d ≡ first (default_lines s list f at)) where
-  pub default_stops : (r : Refusal) (p : ℕ) → d ≡ Stopped r p → Stopped r p ≡ first (field_lines s list f ofFile at)
+module _ (s : Sight) (list : List ℕ) (f : FieldSays) (ofFile : Bool) (at : ℕ) {d : Result (List ℕ) Refused} (is_default : d ≡ judged (first (default_lines s list f at)) (default_part s list f)) where
+  pub default_stops : {B : Type 0} (y : B) {r : Refused} → d ≡ Err r → Err r ≡ judged (first (field_lines s list f ofFile at)) y
   unfolding field_lines
-  default_stops r p q = sym (first_stops (default_lines s list f at) (extendee_lines s list f ofFile at ++ type_lines s list f at) r p (sym is_default ∙ q))
+  default_stops y q = step_stops (default_lines s list f at) (extendee_lines s list f ofFile at ++ type_lines s list f at) (default_part s list f) is_default y q
 
-  module _ (passed : d ≡ Passed) {e : Verdict} (isExtendee : e ≡ first (extendee_lines s list f ofFile at)) where
+  module _ {dk : List ℕ} (passed : d ≡ Ok dk) {e : Result (List ℕ) Refused} (isExtendee : e ≡ judged (first (extendee_lines s list f ofFile at)) (extendee_part s list f)) where
     default-passes : first (field_lines s list f ofFile at) ≡ first (extendee_lines s list f ofFile at ++ type_lines s list f at)
     unfolding field_lines
-    default-passes = first_passes (default_lines s list f at) (extendee_lines s list f ofFile at ++ type_lines s list f at) (sym is_default ∙ passed)
+    default-passes = step_passes (default_lines s list f at) (extendee_lines s list f ofFile at ++ type_lines s list f at) (default_part s list f) is_default passed
 
-    pub extendee_stops : (r : Refusal) (p : ℕ) → e ≡ Stopped r p → Stopped r p ≡ first (field_lines s list f ofFile at)
-    extendee_stops r p q = sym (default-passes ∙ first_stops (extendee_lines s list f ofFile at) (type_lines s list f at) r p (sym isExtendee ∙ q))
+    pub extendee_stops : {B : Type 0} (y : B) {r : Refused} → e ≡ Err r → Err r ≡ judged (first (field_lines s list f ofFile at)) y
+    extendee_stops y q = rw default-passes (step_stops (extendee_lines s list f ofFile at) (type_lines s list f at) (extendee_part s list f) isExtendee y q)
 
-    pub type_decides : {t : Verdict} → e ≡ Passed → t ≡ first (type_lines s list f at) → t ≡ first (field_lines s list f ofFile at)
-    type_decides q h = h ∙ sym (default-passes ∙ first_passes (extendee_lines s list f ofFile at) (type_lines s list f at) (sym isExtendee ∙ q))
+    module _ {ek : List ℕ} (passed_too : e ≡ Ok ek) {t : Result (List ℕ) Refused} (is_type : t ≡ judged (first (type_lines s list f at)) (type_part s list f)) where
+      type_decides : first (field_lines s list f ofFile at) ≡ first (type_lines s list f at)
+      type_decides = default-passes ∙ step_passes (extendee_lines s list f ofFile at) (type_lines s list f at) (extendee_part s list f) isExtendee passed_too
+
+      pub type_stops : {B : Type 0} (y : B) {r : Refused} → t ≡ Err r → Err r ≡ judged (first (field_lines s list f ofFile at)) y
+      type_stops y q = rw (type_decides, judged_stopped (first (type_lines s list f at)) (type_part s list f) (sym is_type ∙ q))
+
+      pub field_passes : {B : Type 0} {x y : B} {tk : List ℕ} → t ≡ Ok tk → x ≡ y → Ok x ≡ judged (first (field_lines s list f ofFile at)) y
+      field_passes q h = rw (type_decides, judged_passed (first (type_lines s list f at)) (type_part s list f) (sym is_type ∙ q), h)
 
 module _ (s : Sight) (list : List ℕ) (f : FieldSays) where
-  pub field_words_lem : (home container : ℕ) {kind ef ei dk dl dh : ℕ} (w : List ℕ) → kind ≡ cond (has_extendee f) 1 0 → (ef ∷ ei ∷ []) ≡ extendee_part s list f
+  field_words_lem : (home container : ℕ) {kind ef ei dk dl dh : ℕ} (w : List ℕ) → kind ≡ cond (has_extendee f) 1 0 → (ef ∷ ei ∷ []) ≡ extendee_part s list f
       → w ≡ type_part s list f → (dk ∷ dl ∷ dh ∷ []) ≡ default_part s list f
       → (home ∷ kind ∷ container ∷ ef ∷ ei ∷ get_or w 0 0 ∷ get_or w 1 0 ∷ get_or w 2 0 ∷ get_or w 3 0 ∷ get_or w 4 0 ∷ get_or w 5 0 ∷ get_or w 6 0 ∷ dk ∷ dl ∷ dh ∷ 0 ∷ [])
       ≡ field_words s list f home container
@@ -171,6 +170,12 @@ module _ (s : Sight) (list : List ℕ) (f : FieldSays) where
       ∙ ap (λ (l : List ℕ). home ∷ cond (has_extendee f) 1 0 ∷ container ∷ (l ++ (w ++ (dk ∷ dl ∷ dh ∷ 0 ∷ [])))) e
       ∙ ap (λ (l : List ℕ). home ∷ cond (has_extendee f) 1 0 ∷ container ∷ (extendee_part s list f ++ (l ++ (dk ∷ dl ∷ dh ∷ 0 ∷ [])))) t
       ∙ ap (λ (l : List ℕ). home ∷ cond (has_extendee f) 1 0 ∷ container ∷ (extendee_part s list f ++ (type_part s list f ++ (l ++ (0 ∷ []))))) d
+
+  pub field_words_of : (home container : ℕ) {kind : ℕ} (d e w : List ℕ) → kind ≡ cond (has_extendee f) 1 0 → d ≡ default_part s list f → e ≡ extendee_part s list f → w ≡ type_part s list f
+      → (home ∷ kind ∷ container ∷ get_or e 0 0 ∷ get_or e 1 0 ∷ get_or w 0 0 ∷ get_or w 1 0 ∷ get_or w 2 0 ∷ get_or w 3 0 ∷ get_or w 4 0 ∷ get_or w 5 0 ∷ get_or w 6 0 ∷ get_or d 0 0 ∷ get_or d 1 0 ∷ get_or d 2 0 ∷ 0 ∷ [])
+      ≡ field_words s list f home container
+  field_words_of home container d e w k p q r =
+      field_words_lem home container w k (sym (listed_all e 2 0 (ap length q ∙ extendee-length s list f)) ∙ q) r (sym (listed_all d 3 0 (ap length p ∙ default-length s list f)) ∙ p)
 
 -- ---- a range of n fields from image row `row` on, whose flat numbers start at `at`
 
@@ -188,7 +193,7 @@ links_wide s list container r = field_wide s list ((says s.own).field r) r conta
 pub record Linking (s : Sight) (list : List ℕ) (ofFile : Bool) (container row n at : ℕ) (o₀ : List ℕ) (j : ℕ) (o : List ℕ) : Type 0 where
   pub below : j ≤ n
   pub len : length o ≡ length o₀
-  pub passed : first (fields_lines s list ofFile row j at) ≡ Passed
+  pub passed : first (fields_lines s list ofFile row j at) ≡ Ok tt
   pub done : o ≡ splice o₀ (at * 16) (field_links_in s list container (span row j))
 
 module _ (s : Sight) (list : List ℕ) (ofFile : Bool) (container row n at : ℕ) (o₀ : List ℕ) where
@@ -203,33 +208,27 @@ module _ (s : Sight) (list : List ℕ) (ofFile : Bool) (container row n at : ℕ
 
 module _ {s : Sight} {list : List ℕ} {ofFile : Bool} {container row n at : ℕ} {o₀ : List ℕ} {j : ℕ} {o : List ℕ}
     (w : Linking s list ofFile container row n at o₀ j o) where
-  pub linking_next : {v : Verdict} {ws o₁ : List ℕ} {f : FieldSays} → j < n → (at + n) * 16 ≤ length o₀ → f ≡ (says s.own).field (row + j)
-      → v ≡ first (field_lines s list f ofFile (at + j)) → v ≡ Passed → ws ≡ field_words s list f (row + j) container
-      → length o₁ ≡ length o → o₁ ≡ splice o ((at + j) * 16) ws → Linking s list ofFile container row n at o₀ (j + 1) o₁
-  linking_next {v} {ws} {o₁} {f} l room said p q r len put =
-      let e : (at + j) * 16 ≡ at * 16 + j * 16 = omega arith in
-      record {
-        below = omega arith;
-        len = len ∙ w.len;
-        passed = order_more j (lines_of s list ofFile row at) w.passed (ap (λ (x : FieldSays). first (field_lines s list x ofFile (at + j))) (sym said) ∙ sym p ∙ q);
-        done =
-            run_put (link_of s list container) 16 (links_wide s list container) o₀ (at * 16) row j (omega arith) w.done
-            (put
-            ∙ ap (λ (k : ℕ). splice o k ws) e
-            ∙ ap (splice o (at * 16 + j * 16)) (r ∙ ap (λ (x : FieldSays). field_words s list x (row + j) container) said));
-      }
+  module _ {v : Result (List ℕ) Refused} {f : FieldSays} (l : j < n) (said : f ≡ (says s.own).field (row + j)) (h : v ≡ judged (first (field_lines s list f ofFile (at + j))) (field_words s list f (row + j) container)) where
+    pub linking_next : {ws o₁ : List ℕ} → (at + n) * 16 ≤ length o₀ → v ≡ Ok ws → length o₁ ≡ length o → o₁ ≡ splice o ((at + j) * 16) ws → Linking s list ofFile container row n at o₀ (j + 1) o₁
+    linking_next {ws} {o₁} room q len put =
+        let e : (at + j) * 16 ≡ at * 16 + j * 16 = omega arith in
+        let passed = judged_passed (first (field_lines s list f ofFile (at + j))) (field_words s list f (row + j) container) (sym h ∙ q) in
+        let value = judged_value (first (field_lines s list f ofFile (at + j))) (field_words s list f (row + j) container) (sym h ∙ q) in
+        record {
+          below = omega arith;
+          len = len ∙ w.len;
+          passed = order_more j (lines_of s list ofFile row at) w.passed (ap (λ (x : FieldSays). first (field_lines s list x ofFile (at + j))) (sym said) ∙ passed);
+          done =
+              run_put (link_of s list container) 16 (links_wide s list container) o₀ (at * 16) row j (omega arith) w.done
+              (put
+              ∙ ap (λ (k : ℕ). splice o k ws) e
+              ∙ ap (splice o (at * 16 + j * 16)) (sym value ∙ ap (λ (x : FieldSays). field_words s list x (row + j) container) said));
+        }
 
-  pub linking_stop : {v : Verdict} {f : FieldSays} (r : Refusal) (p : ℕ) → j < n → f ≡ (says s.own).field (row + j)
-      → v ≡ first (field_lines s list f ofFile (at + j)) → v ≡ Stopped r p → Stopped r p ≡ first (fields_lines s list ofFile row n at)
-  linking_stop {v} {f} r p l said e q =
-      sym
-      (order_stop n (lines_of s list ofFile row at) j r p l w.passed (ap (λ (x : FieldSays). first (field_lines s list x ofFile (at + j))) (sym said) ∙ sym e ∙ q))
-
-  pub linking_passed : n ≤ j → Passed ≡ first (fields_lines s list ofFile row n at)
-  linking_passed h = let e : j ≡ n = omega (arith, w.below) in sym (rw e at w.passed)
-
-  pub linking_done : n ≤ j → o ≡ splice o₀ (at * 16) (field_links_in s list container (span row n))
-  linking_done h = let e : j ≡ n = omega (arith, w.below) in rw e at w.done
+    pub linking_stop : {r : Refused} → v ≡ Err r → Err r ≡ first (fields_lines s list ofFile row n at)
+    linking_stop {r} q =
+        let stopped = judged_stopped (first (field_lines s list f ofFile (at + j))) (field_words s list f (row + j) container) (sym h ∙ q) in
+        sym (order_stop n (lines_of s list ofFile row at) j r l w.passed (ap (λ (x : FieldSays). first (field_lines s list x ofFile (at + j))) (sym said) ∙ stopped))
 
 -- ---- the link row of a message
 
@@ -288,11 +287,11 @@ module _ (s : Sight) (list : List ℕ) (m : ℕ) where
           ∙ ap (λ (z : Range). first (fields_lines s list false z.first z.count at)) isRegular
           ∙ ap (λ (k : ℕ). let g = says s.own in first (fields_lines s list false (g.fields_in (row_of g m)).first (g.fields_in (row_of g m)).count k)) is_at
 
-      pub regular_stops : (r : Refusal) (p : ℕ) → v ≡ Stopped r p → Stopped r p ≡ first (message_lines s list m)
+      pub regular_stops : (r : Refused) → v ≡ Err r → Err r ≡ first (message_lines s list m)
       unfolding message_lines
-      regular_stops r p q = sym (first_stops regular_lines (clash_lines ++ extension_lines) r p (sym regular_verdict ∙ q))
+      regular_stops r q = sym (first_stops regular_lines (clash_lines ++ extension_lines) r (sym regular_verdict ∙ q))
 
-      module _ (passed : v ≡ Passed) {row : ℕ} (is_row : row ≡ row_of (says s.own) m) {c : Verdict} (clashed : c ≡ first (clash_at (says s.own) row at)) where
+      module _ (passed : v ≡ Ok tt) {row : ℕ} (is_row : row ≡ row_of (says s.own) m) {c : Verdict} (clashed : c ≡ first (clash_at (says s.own) row at)) where
         clash_verdict : c ≡ first clash_lines
         clash_verdict =
             clashed
@@ -303,10 +302,10 @@ module _ (s : Sight) (list : List ℕ) (m : ℕ) where
         unfolding message_lines
         regular-passes = first_passes regular_lines (clash_lines ++ extension_lines) (sym regular_verdict ∙ passed)
 
-        pub clash_stops : (r : Refusal) (p : ℕ) → c ≡ Stopped r p → Stopped r p ≡ first (message_lines s list m)
-        clash_stops r p q = sym (regular-passes ∙ first_stops clash_lines extension_lines r p (sym clash_verdict ∙ q))
+        pub clash_stops : (r : Refused) → c ≡ Err r → Err r ≡ first (message_lines s list m)
+        clash_stops r q = sym (regular-passes ∙ first_stops clash_lines extension_lines r (sym clash_verdict ∙ q))
 
-        pub extensions_decide : {y : Range} {e : Verdict} → c ≡ Passed → y ≡ (says s.own).extensions_in (row_of (says s.own) m)
+        pub extensions_decide : {y : Range} {e : Verdict} → c ≡ Ok tt → y ≡ (says s.own).extensions_in (row_of (says s.own) m)
             → e ≡ first (fields_lines s list false y.first y.count (at + x.count)) → e ≡ first (message_lines s list m)
         extensions_decide {y} {e} q isExtensions h =
             h
@@ -350,7 +349,7 @@ part_at s m = first_field (says s.own) m * 16
 -- the messages below m are linked without a refusal, and their rows written
 pub record Indexing (s : Sight) (list : List ℕ) (o₀ : List ℕ) (m : ℕ) (o : List ℕ) : Type 0 where
   pub written : Writing (message_part s list) (part_at s) (says s.own).messages o₀ m (part_at s m) o
-  pub passed : first (in_order m (message_lines s list)) ≡ Passed
+  pub passed : first (in_order m (message_lines s list)) ≡ Ok tt
 
 module _ (s : Sight) (list : List ℕ) (ok : Sound (says s.own)) where
   part_length : (m : ℕ) → length (message_part s list m) ≡ (((says s.own).fields_in (row_of (says s.own) m)).count + ((says s.own).extensions_in (row_of (says s.own) m)).count) * 16
@@ -370,7 +369,7 @@ module _ (s : Sight) (list : List ℕ) (ok : Sound (says s.own)) where
         }
 
     module _ {m : ℕ} {o : List ℕ} (w : Indexing s list o₀ m o) where
-      pub indexing_next : {v : Verdict} {o₁ : List ℕ} → m < (says s.own).messages → (says s.own).fields * 16 ≤ length o₀ → v ≡ first (message_lines s list m) → v ≡ Passed
+      pub indexing_next : {v : Verdict} {o₁ : List ℕ} → m < (says s.own).messages → (says s.own).fields * 16 ≤ length o₀ → v ≡ first (message_lines s list m) → v ≡ Ok tt
           → length o₁ ≡ length o → o₁ ≡ splice o (part_at s m) (message_part s list m) → Indexing s list o₀ (m + 1) o₁
       indexing_next l room p q len put =
           record {
@@ -380,11 +379,11 @@ module _ (s : Sight) (list : List ℕ) (ok : Sound (says s.own)) where
             passed = order_more m (message_lines s list) w.passed (sym p ∙ q);
           }
 
-      pub indexing_stop : {v : Verdict} (r : Refusal) (p : ℕ) → m < (says s.own).messages → v ≡ first (message_lines s list m) → v ≡ Stopped r p
-          → Stopped r p ≡ first (in_order (says s.own).messages (message_lines s list))
-      indexing_stop r p l h q = sym (order_stop (says s.own).messages (message_lines s list) m r p l w.passed (sym h ∙ q))
+      pub indexing_stop : {v : Verdict} (r : Refused) → m < (says s.own).messages → v ≡ first (message_lines s list m) → v ≡ Err r
+          → Err r ≡ first (in_order (says s.own).messages (message_lines s list))
+      indexing_stop r l h q = sym (order_stop (says s.own).messages (message_lines s list) m r l w.passed (sym h ∙ q))
 
-      pub indexing_passed : (says s.own).messages ≤ m → Passed ≡ first (in_order (says s.own).messages (message_lines s list))
+      pub indexing_passed : (says s.own).messages ≤ m → Ok tt ≡ first (in_order (says s.own).messages (message_lines s list))
       indexing_passed h =
           let e : m ≡ (says s.own).messages = omega (arith, w.written.below) in
           sym (ap (λ (k : ℕ). first (in_order k (message_lines s list))) (sym e) ∙ w.passed)
@@ -400,11 +399,11 @@ module _ (s : Sight) (list : List ℕ) (ok : Sound (says s.own)) where
     abbrev file_lines : List Line
     file_lines = let g = says s.own in fields_lines s list true g.file_extensions.first g.file_extensions.count (first_field g g.messages)
 
-    pub messages_stop : (r : Refusal) (p : ℕ) → v ≡ Stopped r p → Stopped r p ≡ first (all_field_lines s list)
+    pub messages_stop : (r : Refused) → v ≡ Err r → Err r ≡ first (all_field_lines s list)
     unfolding all_field_lines
-    messages_stop r p q = sym (first_stops (in_order (says s.own).messages (message_lines s list)) file_lines r p (sym judged ∙ q))
+    messages_stop r q = sym (first_stops (in_order (says s.own).messages (message_lines s list)) file_lines r (sym judged ∙ q))
 
-    pub file_decides : {x : Range} {at : ℕ} {e : Verdict} → v ≡ Passed → x ≡ (says s.own).file_extensions → at ≡ first_field (says s.own) (says s.own).messages
+    pub file_decides : {x : Range} {at : ℕ} {e : Verdict} → v ≡ Ok tt → x ≡ (says s.own).file_extensions → at ≡ first_field (says s.own) (says s.own).messages
         → e ≡ first (fields_lines s list true x.first x.count at) → e ≡ first (all_field_lines s list)
     unfolding all_field_lines
     file_decides {x} {at} q isFile is_at h =

@@ -5,6 +5,7 @@ pub mod SearchLaws
 pub mod ResolveLaws
 pub mod TargetLaws
 pub mod FieldLaws
+pub mod JudgedLaws
 pub mod DefaultLaws
 pub mod LinkedLaws
 pub mod FileIndexLaws

@@ -7,6 +7,7 @@ use native.Mathlib.Omega.{arith}
 use lib.Dec.{leb}
 use lib.ListN.{length, take, drop, get_or, length-append, length-drop, take-append-drop}
 use borrow.Author.Tests.{le-leb, lt-leb, leb-true, leb-false}
+use Rattle.std.specs.Prelude.{Option, Some, None, is_some, Result, Ok, Err}
 use Rattle.lists.specs.Splice.{splice, fronted}
 use Rattle.lists.proofs.Cases.{or_left}
 use Rattle.lists.proofs.SpliceLaws.{fronted_fits}
@@ -19,16 +20,13 @@ use Rattle.image.specs.Record.{File, all_link_words, end_words}
 use Rattle.image.specs.Limits.{within_limits}
 use Rattle.image.specs.Shelf.{file_limit, used_with, well_formed}
 use Rattle.image.specs.Places.{file_in, files_in, read_shelf}
-use Rattle.image.specs.Verdict.{Line, first}
+use Rattle.image.specs.Verdict.{Verdict, Line, stopped, first}
 use Rattle.image.specs.Judge.{opening, opening_lines, naming_lines, judged_by, links_by}
-use Rattle.image.specs.declared.judge.Judged.{Judged}
 use Rattle.image.specs.declared.rows.Sections.{Sections}
 use Rattle.image.specs.declared.shelf.Used.{Used}
 use Rattle.image.specs.declared.shelf.Places.{Places}
-use Rattle.image.specs.declared.verdict.Refusal.{Refusal}
 use Rattle.image.specs.declared.verdict.Refusal.TheVariants.{NoRoom, ShelfBroken}
-use Rattle.image.specs.declared.verdict.Verdict.{Verdict}
-use Rattle.image.specs.declared.verdict.Verdict.TheVariants.{Passed, Stopped}
+use Rattle.image.specs.declared.verdict.Refused.{Refused}
 use Rattle.image.proofs.SchemaLaws.{schema_of_lem}
 use Rattle.image.proofs.JudgeLaws.{front-links}
 use Rattle.image.proofs.IndexLaws.{links-length}
@@ -47,8 +45,8 @@ use Rattle.link.specs.Refusals.{Call, said, shelved_files, seen, length_lines, s
 use Rattle.link.specs.Link.{outcome, linked}
 use Rattle.link.specs.Phases.{from_fields, from_naming, from_imports, from_name, from_opening, Standing, new_fields, marked_to}
 use Rattle.link.specs.declared.fds.SearchList.{SearchList}
-use Rattle.link.specs.declared.link.Linked.TheVariants.{Accepted, Refused}
-use Rattle.link.proofs.FileIndexLaws.{first_stops, first_passes, links_wide, link_of, message_part, part_at, message_parts}
+use Rattle.link.proofs.JudgedLaws.{first_stops, first_passes, judged_passed, judged_value, judged_stopped}
+use Rattle.link.proofs.FileIndexLaws.{links_wide, link_of, message_part, part_at, message_parts}
 use Rattle.link.proofs.SearchLaws.{listed_list, searchable_inside, searchable_few}
 use Rattle.link.proofs.ShelfFacts.{formed-few, opened_full, searchable, places_files}
 use Rattle.link.proofs.TableLaws.{opening_group, pass_both, none_given, lengths_pass, room_pass}
@@ -57,24 +55,24 @@ use Rattle.link.proofs.RecordLaws.{marked-front}
 -- ---- a phase that stopped, and one that passed
 
 module _ (ls ms : List Line) {v : Verdict} (h : v ≡ first ls) where
-  pub stops_here : {r : Refusal} {p : ℕ} → v ≡ Stopped r p → Stopped r p ≡ first (ls ++ ms)
-  stops_here {r} {p} e = sym (first_stops ls ms r p (sym h ∙ e))
+  pub stops_here : {r : Refused} → v ≡ Err r → Err r ≡ first (ls ++ ms)
+  stops_here {r} e = sym (first_stops ls ms r (sym h ∙ e))
 
-  pub goes_on_lem : {w : Verdict} → v ≡ Passed → w ≡ first ms → w ≡ first (ls ++ ms)
+  pub goes_on_lem : {w : Verdict} → v ≡ Ok tt → w ≡ first ms → w ≡ first (ls ++ ms)
   goes_on_lem e f = f ∙ sym (first_passes ls ms (sym h ∙ e))
 
 -- ---- the lengths
 
-pub words_short : (c : Call) → first (length_lines c) ≡ Passed → length c.words ≤ 262144
+pub words_short : (c : Call) → first (length_lines c) ≡ Ok tt → length c.words ≤ 262144
 words_short c h = leb-true (length c.words) 262144 (lengths_pass c h).0
 
-pub bytes_short : (c : Call) → first (length_lines c) ≡ Passed → length c.bytes ≤ 131072
+pub bytes_short : (c : Call) → first (length_lines c) ≡ Ok tt → length c.bytes ≤ 131072
 bytes_short c h = leb-true (length c.bytes) 131072 (lengths_pass c h).1.0
 
-pub image_short : (c : Call) → first (length_lines c) ≡ Passed → length c.image ≤ 65536
+pub image_short : (c : Call) → first (length_lines c) ≡ Ok tt → length c.image ≤ 65536
 image_short c h = leb-true (length c.image) 65536 (lengths_pass c h).1.1.0
 
-pub pool_short : (c : Call) → first (length_lines c) ≡ Passed → length c.pool ≤ 32768
+pub pool_short : (c : Call) → first (length_lines c) ≡ Ok tt → length c.pool ≤ 32768
 pool_short c h = leb-true (length c.pool) 32768 (lengths_pass c h).1.1.1.0
 
 -- ---- how many words there are
@@ -140,23 +138,23 @@ module _ (c : Call) (ok : Sound (said c)) where
     size_is : c.used.words + length (new_record c) ≡ c.used.words + (length c.image + (n + (k + 8)))
     size_is = omega (arith, record_length)
 
-    pub no_words : length c.words < c.used.words + (length c.image + (n + (k + 8))) → Stopped NoRoom 0 ≡ first (room_lines c)
+    pub no_words : length c.words < c.used.words + (length c.image + (n + (k + 8))) → stopped NoRoom 0 ≡ first (room_lines c)
     unfolding room_lines first
     no_words h = rw (lt-leb (c.used.words + length (new_record c)) (length c.words) (omega (arith, size_is)))
 
     module _ (w : c.used.words + (length c.image + (n + (k + 8))) ≤ length c.words) where
-      pub no_bytes : length c.bytes < c.used.bytes + length c.pool → Stopped NoRoom 0 ≡ first (room_lines c)
+      pub no_bytes : length c.bytes < c.used.bytes + length c.pool → stopped NoRoom 0 ≡ first (room_lines c)
       unfolding room_lines first
       no_bytes h = rw (le-leb (c.used.words + length (new_record c)) (length c.words) (omega (arith, size_is)), lt-leb (c.used.bytes + length c.pool) (length c.bytes) h)
 
-      pub room_enough : c.used.bytes + length c.pool ≤ length c.bytes → Passed ≡ first (room_lines c)
+      pub room_enough : c.used.bytes + length c.pool ≤ length c.bytes → Ok tt ≡ first (room_lines c)
       unfolding room_lines first
       room_enough h = rw (le-leb (c.used.words + length (new_record c)) (length c.words) (omega (arith, size_is)), le-leb (c.used.bytes + length c.pool) (length c.bytes) h)
 
 -- ---- behind 1 and 2
 
 -- with 3 to 5 passed, the image can be numbered
-pub sound_said : (c : Call) → opening c.image c.pool (leb file_limit c.used.files) ≡ Passed → Sound (said c)
+pub sound_said : (c : Call) → opening c.image c.pool (leb file_limit c.used.files) ≡ Ok tt → Sound (said c)
 sound_said c o = sound_opened c.image c.pool (opened_full c.image c.pool (leb file_limit c.used.files) o)
 
 module _ (c : Call) {p : Places} (st : Standing c p) where
@@ -189,7 +187,7 @@ module _ (c : Call) {p : Places} (st : Standing c p) where
     pub imports-judged : {v : Verdict} → v ≡ first (import_lines files_there (schema_in c.image s c.pool)) → v ≡ first (import_lines (shelved_files c) (said c))
     imports-judged h = h ∙ ap (λ (g : Schema). first (import_lines files_there g)) said_is ∙ ap (λ (x : List File). first (import_lines x (said c))) (sym files_there_lem)
 
-    module _ (o : opening c.image c.pool (leb file_limit c.used.files) ≡ Passed) (i : first (import_lines (shelved_files c) (said c)) ≡ Passed) where
+    module _ (o : opening c.image c.pool (leb file_limit c.used.files) ≡ Ok tt) (i : first (import_lines (shelved_files c) (said c)) ≡ Ok tt) where
       can_search : Searchable files_there (said c)
       can_search = subst (λ (x : List File). Searchable x (said c)) files_there_lem (searchable c.words c.bytes c.used st.formed c.image c.pool (leb file_limit c.used.files) o i)
 
@@ -232,26 +230,28 @@ module _ (c : Call) {p : Places} (st : Standing c p) where
 
 -- ---- 3 to 5, and what comes with them
 
-module _ (c : Call) {j : Judged} {full : Bool} (f : full ≡ leb file_limit c.used.files) (h : j ≡ judged_by (opening c.image c.pool full) (said c)) where
+module _ (c : Call) {j : Result Verdict Refused} {full : Bool} (f : full ≡ leb file_limit c.used.files) (h : j ≡ judged_by (opening c.image c.pool full) (said c)) where
   abbrev opening_of : Verdict
   opening_of = opening c.image c.pool (leb file_limit c.used.files)
 
   judged_is : j ≡ judged_by opening_of (said c)
   judged_is = h ∙ ap (λ (x : Bool). judged_by (opening c.image c.pool x) (said c)) f
 
-  pub opened_is : j.opening ≡ opening_of
-  opened_is = ap (λ (x : Judged). x.opening) judged_is
-
-  pub opened_judged : j.opening ≡ first (opening_lines c.image c.pool (leb file_limit c.used.files))
+  pub opened_stops : {r : Refused} → j ≡ Err r → Err r ≡ first (from_opening c)
   unfolding opening
-  opened_judged = opened_is
+  opened_stops {r} e =
+      sym (first_stops (opening_lines c.image c.pool (leb file_limit c.used.files)) (from_name c) r (judged_stopped opening_of (first (naming_lines (said c) (links_of (said c)))) (sym judged_is ∙ e)))
 
-  module _ (e : j.opening ≡ Passed) where
-    pub opened_passed : opening_of ≡ Passed
-    opened_passed = sym opened_is ∙ e
+  module _ {naming : Verdict} (e : j ≡ Ok naming) where
+    pub opened_passed : opening_of ≡ Ok tt
+    opened_passed = judged_passed opening_of (first (naming_lines (said c) (links_of (said c)))) (sym judged_is ∙ e)
 
-    pub naming_judged : j.naming ≡ first (naming_lines (said c) (links_of (said c)))
-    naming_judged = ap (λ (x : Judged). x.naming) (judged_is ∙ ap (λ (v : Verdict). judged_by v (said c)) opened_passed)
+    pub opened_decides : {v : Verdict} → v ≡ first (from_name c) → v ≡ first (from_opening c)
+    unfolding opening
+    opened_decides h = h ∙ sym (first_passes (opening_lines c.image c.pool (leb file_limit c.used.files)) (from_name c) opened_passed)
+
+    pub naming_judged : naming ≡ first (naming_lines (said c) (links_of (said c)))
+    naming_judged = sym (judged_value opening_of (first (naming_lines (said c) (links_of (said c)))) (sym judged_is ∙ e))
 
     pub links-written : (own : List ℕ) {ws : List ℕ} → link_words (said c) ≤ length own → ws ≡ links_by (opening c.image c.pool full) (said c) own
         → take (link_words (said c)) ws ≡ links_of (said c)
@@ -264,18 +264,18 @@ module _ (c : Call) {j : Judged} {full : Bool} (f : full ≡ leb file_limit c.us
 
 -- ---- a file that draws no refusal
 
-pub both_passed : (ls ms : List Line) → first (ls ++ ms) ≡ Passed → (first ls ≡ Passed) × (first ms ≡ Passed)
+pub both_passed : (ls ms : List Line) → first (ls ++ ms) ≡ Ok tt → (first ls ≡ Ok tt) × (first ms ≡ Ok tt)
 both_passed ls ms h = pass_both (first ls) (first ms) (sym (first_append ls ms) ∙ h)
 
-module _ (c : Call) (all : first (from_opening c) ≡ Passed) where
-  pub all_opened : opening c.image c.pool (leb file_limit c.used.files) ≡ Passed
+module _ (c : Call) (all : first (from_opening c) ≡ Ok tt) where
+  pub all_opened : opening c.image c.pool (leb file_limit c.used.files) ≡ Ok tt
   unfolding opening
   all_opened = (both_passed (opening_group c) (from_name c) all).0
 
   pub all_sound : Sound (said c)
   all_sound = sound_said c all_opened
 
-  room_passed : first (room_lines c) ≡ Passed
+  room_passed : first (room_lines c) ≡ Ok tt
   room_passed =
       let n = (both_passed (opening_group c) (from_name c) all).1 in
       let i = (both_passed (name_lines (shelved_files c) (said c)) (from_imports c) n).1 in
@@ -328,34 +328,38 @@ module _ (c : Call) (all : first (from_opening c) ≡ Passed) where
           ∙ links_parts (seen c) (searched (seen c)) all_sound (take n marked) (ap (λ (w : ℕ). take w marked) x ∙ ap (take (link_words (said c))) r ∙ front)
 
 -- the front of scratch rows
-pub fields_front : (c : Call) → first (from_opening c) ≡ Passed → (o₀ : List ℕ) {o₁ : List ℕ} → o₁ ≡ splice o₀ 0 (new_fields c) → take ((said c).fields * 16) o₁ ≡ new_fields c
+pub fields_front : (c : Call) → first (from_opening c) ≡ Ok tt → (o₀ : List ℕ) {o₁ : List ℕ} → o₁ ≡ splice o₀ 0 (new_fields c) → take ((said c).fields * 16) o₁ ≡ new_fields c
 fields_front c all o₀ h = front-links o₀ (new_fields c) ((said c).fields * 16) h (field_links-length (seen c) (searched (seen c)) (all_sound c all))
 
 -- ---- 2
 
-module _ (c : Call) {p : Places} (h : p ≡ read_shelf c.words c.bytes c.used) where
-  pub whole_is : p.whole ≡ well_formed c.words c.bytes c.used
-  whole_is = ap (λ (x : Places). x.whole) h ∙ read_whole c.words c.bytes c.used
+module _ (c : Call) {p : Option Places} (h : p ≡ read_shelf c.words c.bytes c.used) where
+  whole_is : is_some p ≡ well_formed c.words c.bytes c.used
+  whole_is = ap (λ (x : Option Places). is_some x) h ∙ read_whole c.words c.bytes c.used
 
-  pub shelf_broken : p.whole ≡ false → Stopped ShelfBroken 0 ≡ first (shelf_lines c)
+  pub shelf_broken : p ≡ None → stopped ShelfBroken 0 ≡ first (shelf_lines c)
   unfolding shelf_lines first
-  shelf_broken e = let f : well_formed c.words c.bytes c.used ≡ false = sym whole_is ∙ e in rw f
+  shelf_broken e = let f : well_formed c.words c.bytes c.used ≡ false = sym whole_is ∙ ap (λ (x : Option Places). is_some x) e in rw f
 
-  pub shelf_fine : p.whole ≡ true → Passed ≡ first (shelf_lines c)
-  unfolding shelf_lines first
-  shelf_fine e = let f : well_formed c.words c.bytes c.used ≡ true = sym whole_is ∙ e in rw f
+  module _ {q : Places} (e : p ≡ Some q) where
+    pub shelf_formed : well_formed c.words c.bytes c.used ≡ true
+    shelf_formed = sym whole_is ∙ ap (λ (x : Option Places). is_some x) e
+
+    pub shelf_fine : first (shelf_lines c) ≡ Ok tt
+    unfolding shelf_lines first
+    shelf_fine = rw shelf_formed
 
 -- ---- the outcome
 
 module _ (c : Call) where
-  pub outcome_stopped : {v : Verdict} {r : Refusal} {p : ℕ} (ls : List Line) → v ≡ first ls → v ≡ Stopped r p
-      → record { answer = Refused r p; words = c.words; bytes = c.bytes } ≡ outcome c (first ls)
+  pub outcome_stopped : {v : Verdict} {r : Refused} (ls : List Line) → v ≡ first ls → v ≡ Err r
+      → record { answer = Err r; words = c.words; bytes = c.bytes } ≡ outcome c (first ls)
   unfolding outcome
   outcome_stopped ls h e = sym (ap (outcome c) (sym h ∙ e))
 
-  pub outcome_passed : {v : Verdict} (ls : List Line) {u : Used} {ws bs : List ℕ} → v ≡ first ls → v ≡ Passed → u ≡ used_with c.used (new_file c)
+  pub outcome_passed : {v : Verdict} (ls : List Line) {u : Used} {ws bs : List ℕ} → v ≡ first ls → v ≡ Ok tt → u ≡ used_with c.used (new_file c)
       → ws ≡ splice c.words c.used.words (new_record c) → bs ≡ splice c.bytes c.used.bytes c.pool
-      → record { answer = Accepted u; words = ws; bytes = bs } ≡ outcome c (first ls)
+      → record { answer = Ok u; words = ws; bytes = bs } ≡ outcome c (first ls)
   unfolding outcome
   outcome_passed ls h e p q r = rw (p, q, r) (sym (ap (outcome c) (sym h ∙ e)))
 

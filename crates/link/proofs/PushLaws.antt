@@ -13,20 +13,8 @@ use Rattle.lists.proofs.Cases.{by}
 use Rattle.lists.proofs.TableLaws.{length_table, get_or_table}
 use Rattle.image.specs.Schema.{Schema}
 use Rattle.image.specs.Record.{File}
-use Rattle.image.specs.Shelf.{file_named}
-use Rattle.image.specs.declared.rows.Found.{Found}
-use Rattle.image.specs.declared.rows.Found.TheVariants.{At, Nothing}
-use Rattle.link.specs.Search.{place_or, import_number, imports_of, publics_to, Below}
+use Rattle.link.specs.Search.{import_number, imports_of, publics_to, Below}
 use Rattle.link.proofs.VisitLaws.{below_append}
-
--- ---- the number of an import
-
-module _ (files : List File) (g : Schema) (i : ℕ) where
-  pub number_found : {f : ℕ} → file_named files (g.import_name i) ≡ At f → f ≡ import_number files g i
-  number_found e = sym (ap (λ (x : Found). place_or (length files) x) e)
-
-  pub number_none : {n : ℕ} → length files ≡ n → file_named files (g.import_name i) ≡ Nothing → n ≡ import_number files g i
-  number_none l e = sym (ap (λ (x : Found). place_or (length files) x) e ∙ l)
 
 -- ---- public imports
 

@@ -78,6 +78,10 @@ below_at n [] i p h = absurd (omega arith)
 below_at n (f ∷ l) zero p h = p.0
 below_at n (f ∷ l) (suc i) p h = below_at n l i p.1 (omega arith)
 
+pub all_below : (n : ℕ) (l : List ℕ) → ((k : ℕ) → k < length l → get_or l k 0 < n) → Below n l
+all_below n [] h = tt
+all_below n (f ∷ l) h = (h 0 (omega arith), all_below n l (λ k m. h (suc k) (omega arith)))
+
 -- ---- the same of the search list of an image
 
 module _ (files : List File) (g : Schema) {n : ℕ} (l : length files ≡ n) (s : Searchable files g) where

@@ -6,12 +6,12 @@ use Prim.Native.Nat.{ℕ, zero, suc, ◌<◌, ◌≤◌}
 use native.Mathlib.Omega.{arith}
 use lib.ListN.{length, take, get_or, length-append, get_or-append}
 use lib.Seq.{length-take-le, take-append-le, take_at, get_or_at, get_or-take}
-use borrow.Author.Tests.{leb-true, lt-ltb, le-ltb, not-true, not-false}
-use Rattle.lists.specs.Below.{first_below}
-use Rattle.lists.specs.Lists.{same, table}
+use borrow.Author.Tests.{leb-true, lt-ltb, le-ltb, not-false}
+use Rattle.std.specs.Prelude.{Option, Some, None, Ok, is_some, is_none, unwrap_or}
+use Rattle.lists.specs.Below.{first_below, found_below}
+use Rattle.lists.specs.Lists.{same}
 use Rattle.lists.proofs.Cases.{clash, last, each, or_right}
 use Rattle.lists.proofs.BelowLaws.{all_below_elim, first_low, searched}
-use Rattle.lists.proofs.TableLaws.{length_table, get_or_table, as_table}
 use Rattle.image.specs.Words.{sections_of}
 use Rattle.image.specs.Layout.{laid_out_within_limit}
 use Rattle.image.specs.Limits.{count_tests, counts_within, limit_tests, within_limits}
@@ -19,19 +19,17 @@ use Rattle.image.specs.Texts.{texts_right}
 use Rattle.image.specs.Schema.{Schema, schema_of}
 use Rattle.image.specs.Laid.{Sound}
 use Rattle.image.specs.Record.{File, no_file, says}
-use Rattle.image.specs.Clash.{found_below}
 use Rattle.image.specs.LinkTests.{links_fit}
-use Rattle.image.specs.Shelf.{Shelf, record_fits, before, last_file, image_tests, image_obeys, is_nothing, file_named, imports_named, shelved_tests, file_fits, files_of, shelved, used_part, shelf_tests, well_formed}
-use Rattle.image.specs.Places.{file_in, files_in, read_shelf}
+use Rattle.image.specs.Shelf.{Shelf, record_fits, before, last_file, image_tests, image_obeys, file_named, imports_named, shelved_tests, file_fits, files_of, shelved, used_part, shelf_tests, well_formed}
+use Rattle.image.specs.Places.{files_in, places_of, read_shelf}
 use Rattle.image.specs.Verdict.{Line, first, in_order}
 use Rattle.image.specs.Judge.{opening_lines, opening}
 use Rattle.image.specs.declared.shelf.Used.{Used}
 use Rattle.image.specs.declared.shelf.Places.{Places}
-use Rattle.image.specs.declared.verdict.Verdict.TheVariants.{Passed}
 use Rattle.image.proofs.VerdictLaws.{first_append}
-use Rattle.image.proofs.ReadLaws.{read_files}
+use Rattle.image.proofs.ReadLaws.{formed, read_files}
 use Rattle.image.proofs.ObeyLaws.{sound_obeys, Opened}
-use Rattle.link.specs.Search.{place_or, import_number, Searchable}
+use Rattle.link.specs.Search.{import_number, Searchable}
 use Rattle.link.specs.Refusals.{import_lines}
 use Rattle.link.proofs.TableLaws.{pass_both, none_given}
 use Rattle.link.proofs.FirstLaws.{import_line, import_lines_lem}
@@ -87,6 +85,10 @@ imports-few image pool h =
     let s = sections_of image in
     leb-true s.imports.count 32 (each (count_tests s) (each (limit_tests image s pool) h).0).0
 
+not_none : {A : Type 0} (x : Option A) → is_some x ≡ true → is_none x ≡ false
+not_none (Some a) h = refl
+not_none None h = clash false h refl
+
 module _ (earlier : List File) (x : File) (h : file_fits earlier x ≡ true) where
   -- its image obeys all rules of one image
   pub fit_obeys : image_obeys x.image x.pool ≡ true
@@ -106,11 +108,11 @@ module _ (earlier : List File) (x : File) (h : file_fits earlier x ≡ true) whe
   fit_few = imports-few x.image x.pool fit_within
 
   -- each of its imports names an earlier file
-  pub fit_imports : (k : ℕ) → k < (says x).imports → is_nothing (file_named earlier ((says x).import_name k)) ≡ false
+  pub fit_imports : (k : ℕ) → k < (says x).imports → is_none (file_named earlier ((says x).import_name k)) ≡ false
   unfolding file_fits imports_named
   fit_imports k l =
-      not-true (is_nothing (file_named earlier ((says x).import_name k)))
-      (all_below_elim (says x).imports (λ i. not (is_nothing (file_named earlier ((says x).import_name i)))) (each (shelved_tests earlier x) h).1.1.0 k l)
+      not_none (file_named earlier ((says x).import_name k))
+      (all_below_elim (says x).imports (λ i. is_some (file_named earlier ((says x).import_name i))) (each (shelved_tests earlier x) h).1.1.0 k l)
 
   -- its link words meet their tests
   pub fit_links : links_fit (earlier ++ (x ∷ [])) x ≡ true
@@ -123,14 +125,14 @@ module _ (earlier : List File) (x : File) (h : file_fits earlier x ≡ true) whe
 abbrev called : List File → List ℕ → ℕ → Bool
 called files name i = same (says (get_or files i no_file)).file_name name
 
-found_place : (n k d : ℕ) → k < n → place_or d (found_below n k) ≡ k
+found_place : (n k d : ℕ) → k < n → unwrap_or (found_below n k) d ≡ k
 found_place n k d h = rw (lt-ltb k n h)
 
-found_not : (n : ℕ) → is_nothing (found_below n n) ≡ true
+found_not : (n : ℕ) → is_none (found_below n n) ≡ true
 found_not n = rw (le-ltb n n (omega arith))
 
 -- where file i has the name, the first of that name is i or stands before it
-named_low : (files : List File) (name : List ℕ) (d i : ℕ) → i < length files → called files name i ≡ true → place_or d (file_named files name) ≤ i
+named_low : (files : List File) (name : List ℕ) (d i : ℕ) → i < length files → called files name i ≡ true → unwrap_or (file_named files name) d ≤ i
 unfolding file_named
 named_low files name d i l t =
     let n = length files in
@@ -139,20 +141,20 @@ named_low files name d i l t =
     omega (arith, e, low)
 
 -- what is found has the name
-pub named_some : (files : List File) (name : List ℕ) → is_nothing (file_named files name) ≡ false → (i : ℕ) × (i < length files) × (called files name i ≡ true)
+pub named_some : (files : List File) (name : List ℕ) → is_none (file_named files name) ≡ false → (i : ℕ) × (i < length files) × (called files name i ≡ true)
 unfolding file_named
 named_some files name h =
     let n = length files in
     searched n (called files name) n
     (λ r e. (r.at, r.below, r.has))
-    (λ none e. clash (is_nothing (file_named files name)) (ap (λ (k : ℕ). is_nothing (found_below n k)) e ∙ found_not n) h)
+    (λ none e. clash (is_none (file_named files name)) (ap (λ (k : ℕ). is_none (found_below n k)) e ∙ found_not n) h)
 
 -- a file that is found has a number on the shelf
-pub named_below : (files : List File) (name : List ℕ) (d : ℕ) → is_nothing (file_named files name) ≡ false → place_or d (file_named files name) < length files
+pub named_below : (files : List File) (name : List ℕ) (d : ℕ) → is_none (file_named files name) ≡ false → unwrap_or (file_named files name) d < length files
 named_below files name d h = let r = named_some files name h in omega (arith, r.1, named_low files name d r.0 r.1 r.2)
 
 -- a name that is found among the first f files is found there among all
-pub named_earlier : (files : List File) (name : List ℕ) (d f : ℕ) → f ≤ length files → is_nothing (file_named (take f files) name) ≡ false → place_or d (file_named files name) < f
+pub named_earlier : (files : List File) (name : List ℕ) (d f : ℕ) → f ≤ length files → is_none (file_named (take f files) name) ≡ false → unwrap_or (file_named files name) d < f
 named_earlier files name d f l h =
     let r = named_some (take f files) name h in
     let less : r.0 < f = omega (arith, r.1, length-take-le f files l) in
@@ -162,7 +164,7 @@ named_earlier files name d f l h =
 -- ---- passed rules of the file that is linked
 
 -- 3 to 5 passed: they hold
-pub opened_full : (image pool : List ℕ) (full : Bool) → opening image pool full ≡ Passed → Opened image pool
+pub opened_full : (image pool : List ℕ) (full : Bool) → opening image pool full ≡ Ok tt → Opened image pool
 unfolding opening opening_lines
 opened_full image pool full e =
     let t = none_given (opening_lines image pool full) e in
@@ -176,7 +178,7 @@ pub opened_few : (image pool : List ℕ) → Opened image pool → (schema_of im
 opened_few image pool o = imports-few image pool o.within
 
 -- lines in order that pass: those of each number do
-pub order_passed : (n : ℕ) (f : ℕ → List Line) → first (in_order n f) ≡ Passed → (i : ℕ) → i < n → first (f i) ≡ Passed
+pub order_passed : (n : ℕ) (f : ℕ → List Line) → first (in_order n f) ≡ Ok tt → (i : ℕ) → i < n → first (f i) ≡ Ok tt
 unfolding in_order
 order_passed zero f h i l = absurd (omega arith)
 order_passed (suc n) f h i l =
@@ -184,7 +186,7 @@ order_passed (suc n) f h i l =
     last l (λ e. ap (λ (k : ℕ). first (f k)) e ∙ t.1) (λ m. order_passed n f t.0 i m)
 
 -- 7 passed: each import is found
-pub imports_found : (files : List File) (g : Schema) → first (import_lines files g) ≡ Passed → (k : ℕ) → k < g.imports → is_nothing (file_named files (g.import_name k)) ≡ false
+pub imports_found : (files : List File) (g : Schema) → first (import_lines files g) ≡ Ok tt → (k : ℕ) → k < g.imports → is_none (file_named files (g.import_name k)) ≡ false
 imports_found files g h k l =
     (none_given (import_line files g k) (order_passed g.imports (import_line files g) (import_lines_lem files g ∙ h) k l)).0
 
@@ -225,7 +227,7 @@ module _ (ws bs : List ℕ) (u : Used) (h : well_formed ws bs u ≡ true) where
         named_earlier files ((says file).import_name k) (length files) f (omega (arith, formed-length)) (fit_imports (take f files) file formed_fits k m)
 
   -- with passed rules 3 to 5 and 7 of an image the search list can be made
-  pub searchable : (image pool : List ℕ) (full : Bool) → opening image pool full ≡ Passed → first (import_lines files (schema_of image pool)) ≡ Passed
+  pub searchable : (image pool : List ℕ) (full : Bool) → opening image pool full ≡ Ok tt → first (import_lines files (schema_of image pool)) ≡ Ok tt
       → Searchable files (schema_of image pool)
   searchable image pool full o i =
       record {
@@ -238,22 +240,10 @@ module _ (ws bs : List ℕ) (u : Used) (h : well_formed ws bs u ≡ true) where
 
 -- ---- the same of the files at the places that were read
 
-front_table : (n f : ℕ) (file : ℕ → File) → f ≤ n → take f (table n file) ≡ table f file
-front_table n f file h =
-    as_table (take f (table n file)) f file no_file
-    (length-take-le f (table n file) (omega (arith, length_table n file)))
-    (λ i l. get_or-take f (table n file) i no_file l ∙ get_or_table n file i no_file (omega arith))
-
-module _ (ws bs : List ℕ) (u : Used) (h : well_formed ws bs u ≡ true) {p : Places} (e : p ≡ read_shelf ws bs u) where
+module _ (ws bs : List ℕ) (u : Used) (h : well_formed ws bs u ≡ true) {p : Places} (e : Some p ≡ read_shelf ws bs u) where
   -- they are the files of the shelf
   pub places_files : files_of u.files (used_part ws bs u) ≡ files_in ws bs p u.files
-  places_files = read_files ws bs u h ∙ ap (λ (x : Places). files_in ws bs x u.files) (sym e)
-
-  module _ (f : ℕ) (l : f < u.files) where
-    -- each is in order behind those before it
-    pub places_fit : file_fits (files_in ws bs p f) (file_in ws bs p f) ≡ true
-    places_fit =
-        ap (λ (x : List File). file_fits x (file_in ws bs p f)) (sym (front_table u.files f (file_in ws bs p) (omega arith)))
-        ∙ ap (file_fits (take f (files_in ws bs p u.files))) (sym (get_or_table u.files (file_in ws bs p) f no_file l))
-        ∙ ap (λ (x : List File). fits_at x f) (sym places_files)
-        ∙ formed_fits ws bs u h f l
+  places_files =
+      let s : ◌≡◌ {A = Option Places} (Some p) (Some (places_of u.files (used_part ws bs u))) = e ∙ sym (formed ws bs u h) in
+      let q : p ≡ places_of u.files (used_part ws bs u) = cc in
+      read_files ws bs u h ∙ ap (λ (x : Places). files_in ws bs x u.files) (sym q)

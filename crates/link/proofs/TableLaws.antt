@@ -4,36 +4,28 @@ use mathlib.Core.Logic.{inl, inr}
 use mathlib.Core.Bool.{true}
 use mathlib.Core.List.{List, [], ◌∷◌, ◌++◌}
 use Prim.Native.Nat.{ℕ}
-use native.Mathlib.Omega.{arith}
 use lib.Dec.{leb}
 use borrow.Author.Tests.{not-false}
+use Rattle.std.specs.Prelude.{Ok, Err}
 use Rattle.lists.specs.Below.{all_of}
 use Rattle.lists.proofs.Cases.{by, either, Each, each}
 use Rattle.image.specs.Links.{links_of}
 use Rattle.image.specs.Shelf.{file_limit, well_formed}
-use Rattle.image.specs.Verdict.{Line, first}
+use Rattle.image.specs.Verdict.{Verdict, Line, first, stopped}
 use Rattle.image.specs.Judge.{opening_lines, naming_lines}
 use Rattle.image.specs.declared.verdict.Refusal.{Refusal}
-use Rattle.image.specs.declared.verdict.Verdict.{Verdict}
-use Rattle.image.specs.declared.verdict.Verdict.TheVariants.{Passed, Stopped}
 use Rattle.image.proofs.VerdictLaws.{and_then, first_append}
 use Rattle.link.specs.Search.{searched}
 use Rattle.link.specs.Given.{Given, NoneGiven}
 use Rattle.link.specs.Refusals.{Call, said, shelved_files, seen, length_tests, room_tests, length_lines, shelf_lines, name_lines, import_lines, all_field_lines, room_lines, table}
+use Rattle.link.proofs.JudgedLaws.{ok_not, not_passed, same_refusal}
 
 -- ---- phases
 
--- a verdict is not both
-pub passed_not : {C : Type 0} (v : Verdict) {r : Refusal} {p : ℕ} → v ≡ Stopped r p → v ≡ Passed → C
-passed_not v e f = let z : ◌≡◌ {A = ℕ} 0 1 = cc in absurd (omega arith)
-
-stopped_not : {C : Type 0} {r : Refusal} {p : ℕ} → Stopped r p ≡ Passed → C
-stopped_not {C} {r} {p} f = passed_not (Stopped r p) refl f
-
 -- two phases pass together only if each does
-pub pass_both : (x y : Verdict) → and_then x y ≡ Passed → (x ≡ Passed) × (y ≡ Passed)
-pass_both Passed y h = (refl, h)
-pass_both (Stopped r p) y h = stopped_not h
+pub pass_both : (x y : Verdict) → and_then x y ≡ Ok tt → (x ≡ Ok tt) × (y ≡ Ok tt)
+pass_both (Ok u) y h = (refl, h)
+pass_both (Err r) y h = not_passed r h
 
 -- ---- the table, group by group: the only place where it is opened as a whole
 
@@ -72,16 +64,16 @@ phased c =
 
 -- each group of a table that passes
 pub record AllPassed (c : Call) : Type 0 where
-  pub lengths : first (length_lines c) ≡ Passed
-  pub shelf : first (shelf_lines c) ≡ Passed
-  pub opening : first (opening_group c) ≡ Passed
-  pub name : first (name_group c) ≡ Passed
-  pub imports : first (import_group c) ≡ Passed
-  pub naming : first (naming_group c) ≡ Passed
-  pub fields : first (field_group c) ≡ Passed
-  pub room : first (room_lines c) ≡ Passed
+  pub lengths : first (length_lines c) ≡ Ok tt
+  pub shelf : first (shelf_lines c) ≡ Ok tt
+  pub opening : first (opening_group c) ≡ Ok tt
+  pub name : first (name_group c) ≡ Ok tt
+  pub imports : first (import_group c) ≡ Ok tt
+  pub naming : first (naming_group c) ≡ Ok tt
+  pub fields : first (field_group c) ≡ Ok tt
+  pub room : first (room_lines c) ≡ Ok tt
 
-pub all_passed : (c : Call) → first (table c) ≡ Passed → AllPassed c
+pub all_passed : (c : Call) → first (table c) ≡ Ok tt → AllPassed c
 all_passed c h =
     let l = pass_both (first (length_lines c)) _ (sym (phased c) ∙ h) in
     let s = pass_both (first (shelf_lines c)) _ l.1 in
@@ -94,39 +86,39 @@ all_passed c h =
 
 -- ---- exactly if, over any list of lines
 
-pub none_given : (ls : List Line) → first ls ≡ Passed → NoneGiven ls
+pub none_given : (ls : List Line) → first ls ≡ Ok tt → NoneGiven ls
 unfolding first
 none_given [] h = tt
-none_given (l ∷ ls) h = by l.given (λ t. stopped_not (simp t at h)) (λ t. (t, none_given ls (simp t at h)))
+none_given (l ∷ ls) h = by l.given (λ t. not_passed _ (simp t at h)) (λ t. (t, none_given ls (simp t at h)))
 
-pub given_none : (ls : List Line) → NoneGiven ls → first ls ≡ Passed
+pub given_none : (ls : List Line) → NoneGiven ls → first ls ≡ Ok tt
 unfolding first
 given_none [] h = refl
 given_none (l ∷ ls) h = simp h.0 (given_none ls h.1)
 
-pub first_given : (ls : List Line) (r : Refusal) (p : ℕ) → first ls ≡ Stopped r p → Given ls r p
+pub first_given : (ls : List Line) (r : Refusal) (p : ℕ) → first ls ≡ stopped r p → Given ls r p
 unfolding first
-first_given [] r p h = passed_not Passed h refl
+first_given [] r p h = ok_not h
 first_given (l ∷ ls) r p h =
     by l.given
-    (λ t. let e : Stopped l.refusal l.place ≡ Stopped r p = simp t at h in inl (t, cc, cc))
+    (λ t. let e = same_refusal (simp t at h) in inl (t, e.0, e.1))
     (λ t. inr (t, first_given ls r p (simp t at h)))
 
-pub given_first : (ls : List Line) (r : Refusal) (p : ℕ) → Given ls r p → first ls ≡ Stopped r p
+pub given_first : (ls : List Line) (r : Refusal) (p : ℕ) → Given ls r p → first ls ≡ stopped r p
 unfolding first
 given_first [] r p h = absurd h
 given_first (l ∷ ls) r p h = either h (λ g. simp (g.0, g.1, g.2)) (λ g. simp g.0 (given_first ls r p g.1))
 
 -- ---- what three of the groups show where they pass
 
-pub lengths_pass : (c : Call) → first (length_lines c) ≡ Passed → Each (length_tests c)
+pub lengths_pass : (c : Call) → first (length_lines c) ≡ Ok tt → Each (length_tests c)
 unfolding length_lines
 lengths_pass c h = each (length_tests c) (not-false (all_of (length_tests c)) (none_given (length_lines c) h).0)
 
-pub shelf_pass : (c : Call) → first (shelf_lines c) ≡ Passed → well_formed c.words c.bytes c.used ≡ true
+pub shelf_pass : (c : Call) → first (shelf_lines c) ≡ Ok tt → well_formed c.words c.bytes c.used ≡ true
 unfolding shelf_lines
 shelf_pass c h = not-false (well_formed c.words c.bytes c.used) (none_given (shelf_lines c) h).0
 
-pub room_pass : (c : Call) → first (room_lines c) ≡ Passed → Each (room_tests c)
+pub room_pass : (c : Call) → first (room_lines c) ≡ Ok tt → Each (room_tests c)
 unfolding room_lines
 room_pass c h = each (room_tests c) (not-false (all_of (room_tests c)) (none_given (room_lines c) h).0)

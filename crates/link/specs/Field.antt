@@ -1,35 +1,27 @@
 -- One field: its refusals in the order tried (default, extendee or 14, type), and its link row. `list` is the search list, `at` the field's
 -- flat number. Assumes nothing.
-use Rattle.std.specs.Prelude.{List, [], ◌∷◌, ◌++◌, Bool, true, false, not, cond, ◌&&◌, ℕ, ◌+◌, eqb}
-use Rattle.lists.specs.Below.{first_below}
+use Rattle.std.specs.Prelude.{List, [], ◌∷◌, ◌++◌, Bool, true, false, not, cond, ◌&&◌, ℕ, ◌+◌, eqb, Option, Some, None, is_none, unwrap_or, Result, Ok, Err}
+use Rattle.lists.specs.Below.{first_below, found_below}
 use Rattle.lists.specs.Lists.{same, is_empty}
 use Rattle.names.specs.Types.{type_of, runtime_type}
-use Rattle.names.specs.Default.{default_of}
-use Rattle.names.specs.declared.runtime_type_box.TypeRead.{TypeRead}
-use Rattle.names.specs.declared.runtime_type_box.TypeRead.TheVariants.{Known, Unknown}
-use Rattle.names.specs.declared.runtime_type_box.DefaultRead.{DefaultRead}
-use Rattle.names.specs.declared.runtime_type_box.DefaultRead.TheVariants.{Integer, Text, ValueName, Unreadable, Unsupported}
+use Rattle.names.specs.Default.{DefaultRead, default_of}
+use Rattle.names.specs.declared.runtime_type_box.FieldType.{FieldType}
+use Rattle.names.specs.declared.runtime_type_box.ReadDefault.TheVariants.{Integer, Text, ValueName}
+use Rattle.names.specs.declared.runtime_type_box.DefaultRefused.TheVariants.{Unreadable, Unsupported}
 use Rattle.image.specs.Schema.{Schema, FieldSays}
 use Rattle.image.specs.Members.{regular}
 use Rattle.image.specs.Links.{message_row, enum_row}
 use Rattle.image.specs.MapEntry.{is_map_entry}
-use Rattle.image.specs.Clash.{found_below}
 use Rattle.image.specs.Record.{File, says}
 use Rattle.image.specs.LinkTests.{file_by}
-use Rattle.image.specs.Shelf.{is_nothing}
 use Rattle.image.specs.Verdict.{Line, line}
-use Rattle.image.specs.declared.rows.Found.{Found}
-use Rattle.image.specs.declared.rows.Found.TheVariants as found
 use Rattle.image.specs.declared.verdict.Refusal.{Refusal}
-use Rattle.image.specs.declared.verdict.Verdict.TheVariants.{Passed, Stopped}
+use Rattle.image.specs.declared.verdict.Refused.{Refused}
 use Rattle.image.specs.declared.verdict.Refusal.TheVariants.{DefaultWrong, DefaultBarred, ExtendeeAbsent, MessageMissing, EnumMissing}
 use Rattle.link.specs.Sight.{Sight, in_sight}
-use Rattle.link.specs.Search.{place_or}
-use Rattle.link.specs.Resolve.{target, type_target, target_file, target_index, is_missing, is_message_type}
+use Rattle.link.specs.Resolve.{target, type_target, target_file, target_index, nowhere, is_message_type}
 use Rattle.link.specs.declared.building.Wanted.TheVariants.{Message, Enum}
 use Rattle.link.specs.declared.building.Target.{Target}
-use Rattle.link.specs.declared.building.Target.TheVariants as aim
-use Rattle.link.specs.declared.field_index.DefaultLinked.{DefaultLinked}
 
 -- ---- default
 
@@ -38,49 +30,44 @@ abbrev pub is_given : FieldSays → Bool
 is_given f = not (eqb f.given 0)
 
 -- what its text says for the field's type
-abbrev pub read_as : TypeRead → List ℕ → ℕ → DefaultRead
-read_as (Known t) text start = default_of (runtime_type t) text start
-read_as Unknown text start = Unreadable
+abbrev pub read_as : Option FieldType → List ℕ → ℕ → DefaultRead
+read_as (Some t) text start = default_of (runtime_type t) text start
+read_as None text start = Err Unreadable
 
 unfoldable pub default_read : FieldSays → DefaultRead
 default_read f = read_as (type_of f.«type») f.default f.default_start
 
 abbrev pub is_unreadable : DefaultRead → Bool
-is_unreadable Unreadable = true
-is_unreadable (Integer w) = false
-is_unreadable (Text w) = false
-is_unreadable ValueName = false
-is_unreadable Unsupported = false
+is_unreadable (Ok d) = false
+is_unreadable (Err Unreadable) = true
+is_unreadable (Err Unsupported) = false
 
 abbrev pub is_unsupported : DefaultRead → Bool
-is_unsupported Unsupported = true
-is_unsupported Unreadable = false
-is_unsupported (Integer w) = false
-is_unsupported (Text w) = false
-is_unsupported ValueName = false
+is_unsupported (Ok d) = false
+is_unsupported (Err Unreadable) = false
+is_unsupported (Err Unsupported) = true
 
 abbrev pub is_value_name : DefaultRead → Bool
-is_value_name ValueName = true
-is_value_name Unreadable = false
-is_value_name Unsupported = false
-is_value_name (Integer w) = false
-is_value_name (Text w) = false
+is_value_name (Ok (Integer w)) = false
+is_value_name (Ok (Text w)) = false
+is_value_name (Ok ValueName) = true
+is_value_name (Err r) = false
 
 -- the first value of that name of enum row r: its place in the enum
-unfoldable pub first_value : Schema → ℕ → List ℕ → Found
+unfoldable pub first_value : Schema → ℕ → List ℕ → Option ℕ
 unfolding first_below
 first_value g r text =
     found_below (g.values_in r).count (first_below (g.values_in r).count (λ k. same (g.value_name ((g.values_in r).first + k)) text) (g.values_in r).count)
 
 -- the same of the enum with flat number e of a file, and of the enum that a target is
-abbrev pub value_in : File → ℕ → List ℕ → Found
+abbrev pub value_in : File → ℕ → List ℕ → Option ℕ
 value_in file e text = first_value (says file) (enum_row (says file) file.links e) text
 
-abbrev pub value_of : Sight → Target → List ℕ → Found
+abbrev pub value_of : Sight → Option Target → List ℕ → Option ℕ
 value_of s t text = value_in (file_by (in_sight s) (target_file t)) (target_index t) text
 
 -- the place in its enum of the value that a field's default names
-abbrev pub named_default : Sight → List ℕ → FieldSays → Found
+abbrev pub named_default : Sight → List ℕ → FieldSays → Option ℕ
 named_default s list f = value_of s (target Enum s list f.type_name) f.default
 
 -- 12 and 13; of an enum 16 where it is not found, and 12 where it has no value of that name
@@ -89,17 +76,16 @@ unfolding first_value
 default_lines s list f at =
     line DefaultWrong (is_given f && is_unreadable (default_read f)) at
     ∷ line DefaultBarred (is_given f && is_unsupported (default_read f)) at
-    ∷ line EnumMissing (is_given f && (is_value_name (default_read f) && is_missing (target Enum s list f.type_name))) at
-    ∷ line DefaultWrong (is_given f && (is_value_name (default_read f) && is_nothing (named_default s list f))) at
+    ∷ line EnumMissing (is_given f && (is_value_name (default_read f) && is_none (target Enum s list f.type_name))) at
+    ∷ line DefaultWrong (is_given f && (is_value_name (default_read f) && is_none (named_default s list f))) at
     ∷ []
 
 -- default kind, low and high word: 0 none, 1 integer or bool, 3 text, 4 enum
-abbrev pub default_record : Found → DefaultRead → List ℕ
-default_record value (Integer w) = 1 ∷ w.low ∷ w.high ∷ []
-default_record value (Text w) = 3 ∷ w.low ∷ w.high ∷ []
-default_record value ValueName = 4 ∷ place_or 0 value ∷ 0 ∷ []
-default_record value Unreadable = 0 ∷ 0 ∷ 0 ∷ []
-default_record value Unsupported = 0 ∷ 0 ∷ 0 ∷ []
+abbrev pub default_record : Option ℕ → DefaultRead → List ℕ
+default_record value (Ok (Integer w)) = 1 ∷ w.low ∷ w.high ∷ []
+default_record value (Ok (Text w)) = 3 ∷ w.low ∷ w.high ∷ []
+default_record value (Ok ValueName) = 4 ∷ unwrap_or value 0 ∷ 0 ∷ []
+default_record value (Err r) = 0 ∷ 0 ∷ 0 ∷ []
 
 unfoldable pub default_part : Sight → List ℕ → FieldSays → List ℕ
 unfolding first_value
@@ -110,14 +96,14 @@ default_part s list f = cond (is_given f) (default_record (named_default s list 
 abbrev pub has_extendee : FieldSays → Bool
 has_extendee f = not (is_empty f.extendee)
 
-abbrev pub extendee_target : Sight → List ℕ → FieldSays → Target
+abbrev pub extendee_target : Sight → List ℕ → FieldSays → Option Target
 extendee_target s list f = target Message s list f.extendee
 
 -- 14 is for file extensions alone
 unfoldable pub extendee_lines : Sight → List ℕ → FieldSays → Bool → ℕ → List Line
 extendee_lines s list f ofFile at =
     line ExtendeeAbsent (ofFile && not (has_extendee f)) at
-    ∷ line MessageMissing (has_extendee f && is_missing (extendee_target s list f)) at
+    ∷ line MessageMissing (has_extendee f && is_none (extendee_target s list f)) at
     ∷ []
 
 -- extendee file and index, 0 where absent
@@ -130,8 +116,8 @@ extendee_part s list f =
 -- what a type of a field, or of a map's key or value, draws where it is not found
 unfoldable pub element_lines : Sight → List ℕ → FieldSays → ℕ → List Line
 element_lines s list f at =
-    line MessageMissing (is_message_type f.«type» && is_missing (type_target s list f.«type» f.type_name)) at
-    ∷ line EnumMissing (eqb f.«type» 14 && is_missing (type_target s list f.«type» f.type_name)) at
+    line MessageMissing (is_message_type f.«type» && is_none (type_target s list f.«type» f.type_name)) at
+    ∷ line EnumMissing (eqb f.«type» 14 && is_none (type_target s list f.«type» f.type_name)) at
     ∷ []
 
 -- its type, file and index
@@ -146,18 +132,18 @@ element_part s list f =
 abbrev pub field_in : File → ℕ → ℕ → FieldSays
 field_in file m j = regular (says file) (message_row file.links m) j
 
-abbrev pub entry_field : Sight → Target → ℕ → FieldSays
+abbrev pub entry_field : Sight → Option Target → ℕ → FieldSays
 entry_field s t j = field_in (file_by (in_sight s) (target_file t)) (target_index t) j
 
 -- the message with flat number m of a file is a map entry, and so is the message that a target is
 abbrev pub entry_in : File → ℕ → Bool
 entry_in file m = is_map_entry (says file) (message_row file.links m)
 
-abbrev pub is_entry : Sight → Target → Bool
+abbrev pub is_entry : Sight → Option Target → Bool
 is_entry s t = entry_in (file_by (in_sight s) (target_file t)) (target_index t)
 
 -- what a field's own type leads to
-abbrev pub field_target : Sight → List ℕ → FieldSays → Target
+abbrev pub field_target : Sight → List ℕ → FieldSays → Option Target
 field_target s list f = type_target s list f.«type» f.type_name
 
 abbrev pub is_repeated : FieldSays → Bool
@@ -210,18 +196,22 @@ field_words s list f row container =
     ∷ container
     ∷ (extendee_part s list f ++ (type_part s list f ++ (default_part s list f ++ (0 ∷ []))))
 
--- ---- as the code has it: steps that answer a verdict together with words
+-- ---- as the code has it: steps that answer a refusal or what they are for
 
-abbrev pub value_default : Found → ℕ → DefaultLinked
-value_default (found.At k) at = record { verdict = Passed; kind = 4; low = k; high = 0 }
-value_default found.Nothing at = record { verdict = Stopped DefaultWrong at; kind = 0; low = 0; high = 0 }
+abbrev pub value_default : Option ℕ → ℕ → Result (List ℕ) Refused
+value_default (Some k) at = Ok (4 ∷ k ∷ 0 ∷ [])
+value_default None at = Err (record { refusal = DefaultWrong; place = at })
 
-abbrev pub target_default : Sight → Target → List ℕ → ℕ → DefaultLinked
-target_default s (aim.At word e) text at = value_default (value_in (file_by (in_sight s) word) e text) at
-target_default s aim.Missing text at = record { verdict = Stopped EnumMissing at; kind = 0; low = 0; high = 0 }
+abbrev pub target_default : Sight → Option Target → List ℕ → ℕ → Result (List ℕ) Refused
+target_default s (Some t) text at = value_default (value_in (file_by (in_sight s) t.file) t.index text) at
+target_default s None text at = Err (record { refusal = EnumMissing; place = at })
 
-unfoldable pub enum_default : Sight → List ℕ → FieldSays → ℕ → DefaultLinked
+unfoldable pub enum_default : Sight → List ℕ → FieldSays → ℕ → Result (List ℕ) Refused
 enum_default s list f at = target_default s (target Enum s list f.type_name) f.default at
+
+-- what a type leads to
+abbrev pub element_target : Sight → List ℕ → FieldSays → Target
+element_target s list f = unwrap_or (field_target s list f) nowhere
 
 -- the refusal of a type whose name leads nowhere
 abbrev pub missing_refusal : ℕ → Refusal

@@ -1,5 +1,6 @@
 pub mod Sight
 pub mod Search
+pub mod Scope
 pub mod Resolve
 pub mod Field
 pub mod Chain

@@ -1,5 +1,5 @@
 -- The table of refusals from each phase on, what the phases rely on, and how marks come into link rows. Assumes nothing.
-use Rattle.std.specs.Prelude.{◌≡◌, List, [], ◌∷◌, ◌++◌, true, ℕ, zero, suc, ◌+◌, ◌*◌, ◌≤◌, leb, eqb, get_or}
+use Rattle.std.specs.Prelude.{◌≡◌, List, [], ◌∷◌, ◌++◌, true, ℕ, zero, suc, ◌+◌, ◌*◌, ◌≤◌, leb, eqb, get_or, Some, Ok}
 use Rattle.lists.specs.Below.{bit}
 use Rattle.lists.specs.Splice.{splice}
 use Rattle.image.specs.Links.{links_of, link_words}
@@ -10,7 +10,7 @@ use Rattle.image.specs.Verdict.{Line, first}
 use Rattle.image.specs.Judge.{opening_lines, naming_lines, opening}
 use Rattle.image.specs.declared.shelf.Used.{Used}
 use Rattle.image.specs.declared.shelf.Places.{Places}
-use Rattle.image.specs.declared.verdict.Verdict.TheVariants.{Passed}
+use Rattle.link.specs.declared.link.New.{New}
 use Rattle.link.specs.Chain.{no_chain}
 use Rattle.link.specs.Search.{searched}
 use Rattle.link.specs.Rows.{field_links}
@@ -18,6 +18,10 @@ use Rattle.link.specs.Refusals.{Call, said, shelved_files, seen, length_lines, n
 
 abbrev pub call_of : List ℕ → List ℕ → Used → List ℕ → List ℕ → Call
 call_of words bytes used image pool = record { words = words; bytes = bytes; used = used; image = image; pool = pool }
+
+-- the call of what is to be linked
+abbrev pub call_to : List ℕ → List ℕ → New → Call
+call_to words bytes new = call_of words bytes new.used new.image.now new.pool.now
 
 -- ---- the table from a phase on
 
@@ -39,15 +43,15 @@ from_opening c = opening_lines c.image c.pool (leb file_limit c.used.files) ++ f
 -- ---- what the phases behind 2 rely on: no slice is too long, and the shelf is well formed, with its files at places p
 
 pub record Standing (c : Call) (p : Places) : Type 0 where
-  pub lengths : first (length_lines c) ≡ Passed
+  pub lengths : first (length_lines c) ≡ Ok tt
   pub formed : well_formed c.words c.bytes c.used ≡ true
-  pub places : p ≡ read_shelf c.words c.bytes c.used
+  pub places : Some p ≡ read_shelf c.words c.bytes c.used
 
 -- scratch words have room for the link rows of the new file: `links` for those of messages, enums and oneofs, `rows` for those of fields. Of an
 -- image that 3 to 5 refuse nothing is asked
 pub record RoomForLinks (c : Call) (links rows : ℕ) : Type 0 where
-  pub link_room : opening c.image c.pool (leb file_limit c.used.files) ≡ Passed → link_words (said c) ≤ links
-  pub field_room : opening c.image c.pool (leb file_limit c.used.files) ≡ Passed → (said c).fields * field_link_width ≤ rows
+  pub link_room : opening c.image c.pool (leb file_limit c.used.files) ≡ Ok tt → link_words (said c) ≤ links
+  pub field_room : opening c.image c.pool (leb file_limit c.used.files) ≡ Ok tt → (said c).fields * field_link_width ≤ rows
 
 -- the link rows of the new file's fields
 abbrev pub new_fields : Call → List ℕ

@@ -1,5 +1,5 @@
 -- The table of refusals, in the order tried, for a call of `link`. The first line that is given decides. Assumes nothing.
-use Rattle.std.specs.Prelude.{List, [], ◌∷◌, ◌++◌, Bool, true, false, not, ℕ, ◌+◌, leb, length}
+use Rattle.std.specs.Prelude.{List, [], ◌∷◌, ◌++◌, Bool, true, false, not, ℕ, ◌+◌, leb, length, is_some, is_none, unwrap_or}
 use Rattle.lists.specs.Below.{all_of}
 use Rattle.image.specs.Layout.{image_limit}
 use Rattle.image.specs.Schema.{Schema, schema_of}
@@ -7,14 +7,14 @@ use Rattle.image.specs.Flat.{row_of, first_field}
 use Rattle.image.specs.Links.{links_of}
 use Rattle.image.specs.Clash.{first_clash}
 use Rattle.image.specs.Record.{File, record_words}
-use Rattle.image.specs.Shelf.{is_nothing, file_named, files_of, file_limit, used_part, well_formed}
+use Rattle.image.specs.Shelf.{file_named, files_of, file_limit, used_part, well_formed}
 use Rattle.image.specs.Verdict.{Line, line, in_order}
 use Rattle.image.specs.Judge.{opening_lines, naming_lines}
 use Rattle.image.specs.declared.rows.Range.{Range}
 use Rattle.image.specs.declared.shelf.Used.{Used}
 use Rattle.image.specs.declared.verdict.Refusal.TheVariants.{TooLong, ShelfBroken, NameTaken, ImportMissing, FieldClash, NoRoom}
 use Rattle.link.specs.Sight.{Sight, own_says}
-use Rattle.link.specs.Search.{place_or, searched}
+use Rattle.link.specs.Search.{searched}
 use Rattle.link.specs.Field.{field_lines}
 use Rattle.link.specs.Rows.{all_links}
 
@@ -56,7 +56,6 @@ length_tests c =
     ∷ []
 
 unfoldable pub length_lines : Call → List Line
-unfolding all_of
 length_lines c = line TooLong (not (all_of (length_tests c))) 0 ∷ []
 
 -- ---- 2: the shelf
@@ -67,10 +66,10 @@ shelf_lines c = line ShelfBroken (not (well_formed c.words c.bytes c.used)) 0 �
 -- ---- 6 and 7: the file's name and its imports
 
 unfoldable pub name_lines : List File → Schema → List Line
-name_lines files g = line NameTaken (not (is_nothing (file_named files g.file_name))) 0 ∷ []
+name_lines files g = line NameTaken (is_some (file_named files g.file_name)) 0 ∷ []
 
 unfoldable pub import_lines : List File → Schema → List Line
-import_lines files g = in_order g.imports (λ i. line ImportMissing (is_nothing (file_named files (g.import_name i))) i ∷ [])
+import_lines files g = in_order g.imports (λ i. line ImportMissing (is_none (file_named files (g.import_name i))) i ∷ [])
 
 -- ---- 12 to 17: message by message in flat order, then the file's extensions
 
@@ -83,7 +82,7 @@ range_lines s list ofFile g at = fields_lines s list ofFile g.first g.count at
 
 -- 17 for the message on row r, whose first field has the flat number `at`: the place is the later field
 unfoldable pub clash_at : Schema → ℕ → ℕ → List Line
-clash_at g r at = line FieldClash (not (is_nothing (first_clash g r))) (at + place_or 0 (first_clash g r)) ∷ []
+clash_at g r at = line FieldClash (is_some (first_clash g r)) (at + unwrap_or (first_clash g r) 0) ∷ []
 
 -- the message on row r, whose first field has the flat number `at`: its regular fields, 17, its extensions
 abbrev pub row_lines : Sight → List ℕ → ℕ → ℕ → List Line
@@ -117,7 +116,6 @@ room_tests c =
     ∷ []
 
 unfoldable pub room_lines : Call → List Line
-unfolding all_of
 room_lines c = line NoRoom (not (all_of (room_tests c))) 0 ∷ []
 
 -- ---- the table

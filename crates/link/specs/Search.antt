@@ -1,25 +1,18 @@
 -- The search list: the files in which a name is sought that the file itself does not have. Direct imports in order; each file followed at
 -- once by its public imports, last one first, deeply; a file once. Files are shelf numbers. Assumes nothing.
-use Rattle.std.specs.Prelude.{List, [], ◌∷◌, ◌++◌, Bool, false, ◌||◌, cond, ℕ, zero, suc, ◌-◌, ◌<◌, ◌≤◌, eqb, length, get_or, take, replicate}
+use Rattle.std.specs.Prelude.{List, [], ◌∷◌, ◌++◌, Bool, false, ◌||◌, cond, ℕ, zero, suc, ◌-◌, ◌<◌, ◌≤◌, eqb, length, get_or, take, replicate, unwrap_or}
 use Rattle.lists.specs.Lists.{table}
 use Rattle.image.specs.Schema.{Schema}
 use Rattle.image.specs.Record.{File, no_file, says}
 use Rattle.image.specs.Shelf.{file_named}
-use Rattle.image.specs.declared.rows.Found.{Found}
-use Rattle.image.specs.declared.rows.Found.TheVariants.{At, Nothing}
 use Rattle.link.specs.Sight.{Sight}
 use Rattle.link.specs.declared.fds.SearchList.{SearchList}
 
 -- ---- imports
 
--- a place that was found, or d
-abbrev pub place_or : ℕ → Found → ℕ
-place_or d (At k) = k
-place_or d Nothing = d
-
 -- the number of the file that import row i names; where none of the files has that name, how many there are
 abbrev pub import_number : List File → Schema → ℕ → ℕ
-import_number files g i = place_or (length files) (file_named files (g.import_name i))
+import_number files g i = unwrap_or (file_named files (g.import_name i)) (length files)
 
 -- the files that a file imports, in the order of its import rows
 abbrev pub imports_of : List File → Schema → List ℕ

@@ -1,14 +1,16 @@
 // The refusals that look at lengths, at the file's name and at its imports.
 ghost use Rattle.std.specs.Prelude.{◌≡◌};
-ghost use Rattle.image.specs.Schema.{schema_in};
-ghost use Rattle.image.specs.Places.{files_in};
+ghost use Rattle.image.specs.Schema.{schema};
+ghost use Rattle.image.specs.Places.{shelf_files};
 ghost use Rattle.image.specs.Verdict.{first};
+ghost use Rattle.link.specs.Phases.{call_of};
 ghost use Rattle.link.specs.Refusals.{length_lines, name_lines, import_lines};
 
-use image::rows::{Found, Kind, Row, Sections};
-use image::shelf::{Places, Used};
+use image::rows::Row;
+use image::schema::Image;
+use image::shelf::{Shelf, Used};
 use image::verdict::{Refusal, Verdict};
-use image::{imports, rows, well_formed};
+use image::{imports, well_formed};
 
 // 1: a lent slice is longer than its limit.
 pub(crate) fn judge_lengths(
@@ -18,69 +20,36 @@ pub(crate) fn judge_lengths(
     image: &[u32],
     pool: &[u8],
 ) -> Verdict
-    ensures { result ≡ first (length_lines (record { words = words.entry.now; bytes = bytes.now; used = used; image = image.now; pool = pool.now })) }
+    ensures { result ≡ first (length_lines (call_of words.now bytes.now used image.now pool.now)) }
 {
-    let is_long = 262144 < words.len();
-    if is_long {
-        return Verdict::Stopped(Refusal::TooLong, 0);
+    if words.len() <= 262144
+        && bytes.len() <= 131072
+        && image.len() <= 65536
+        && pool.len() <= 32768
+    {
+        return Ok(());
     }
-    if 131072 < bytes.len() {
-        return Verdict::Stopped(Refusal::TooLong, 0);
-    }
-    if 65536 < image.len() {
-        return Verdict::Stopped(Refusal::TooLong, 0);
-    }
-    if 32768 < pool.len() {
-        return Verdict::Stopped(Refusal::TooLong, 0);
-    }
-    Verdict::Passed
+    Err(Refusal::TooLong.at(0))
 }
 
 // 6: the file name is on the shelf.
-pub(crate) fn judge_name(
-    words: &[u32],
-    bytes: &[u8],
-    p: Places,
-    n: u32,
-    image: &[u32],
-    s: Sections,
-    pool: &[u8],
-) -> Verdict
-    ensures { result ≡ first (name_lines (files_in words.now bytes.now p n) (schema_in image.now s pool.now)) }
+pub(crate) fn judge_name(shelf: &Shelf, n: u32, image: &Image) -> Verdict
+    ensures { result ≡ first (name_lines (shelf_files shelf.now n) (schema image.now)) }
 {
-    let found = well_formed::file_named(words, bytes, p, n, imports::file_name(image, s, pool));
-    match found {
-        Found::At(f) => Verdict::Stopped(Refusal::NameTaken, 0),
-        Found::Nothing => Verdict::Passed,
+    if well_formed::file_named(shelf, n, imports::file_name(image)).is_some() {
+        return Err(Refusal::NameTaken.at(0));
     }
+    Ok(())
 }
 
 // 7: an import is not on the shelf; its place is the first such row.
-pub(crate) fn judge_imports(
-    words: &[u32],
-    bytes: &[u8],
-    p: Places,
-    n: u32,
-    image: &[u32],
-    s: Sections,
-    pool: &[u8],
-) -> Verdict
-    ensures { result ≡ first (import_lines (files_in words.now bytes.now p n) (schema_in image.now s pool.now)) }
+pub(crate) fn judge_imports(shelf: &Shelf, n: u32, image: &Image) -> Verdict
+    ensures { result ≡ first (import_lines (shelf_files shelf.now n) (schema image.now)) }
 {
-    let count = rows::count_of(s, Kind::Import);
-    let mut i: u32 = 0;
-    while i < count {
-        let found = well_formed::file_named(
-            words,
-            bytes,
-            p,
-            n,
-            imports::import_name(image, s, pool, Row(i)),
-        );
-        if let Found::Nothing = found {
-            return Verdict::Stopped(Refusal::ImportMissing, i);
+    for i in 0..image.rows.sections.imports.count {
+        if well_formed::file_named(shelf, n, imports::import_name(image, Row(i))).is_none() {
+            return Err(Refusal::ImportMissing.at(i));
         }
-        i += 1;
     }
-    Verdict::Passed
+    Ok(())
 }

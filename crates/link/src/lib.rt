@@ -13,3 +13,4 @@ mod judge;
 pub mod link;
 pub mod lookup;
 mod put;
+mod sight;

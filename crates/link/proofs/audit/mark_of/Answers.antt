@@ -3,9 +3,7 @@ use Rattle.link.proofs.AuditLaws.{mark_open, mark_shut}
 use Rattle.link.proofs.audit.mark_of.Goals as goal
 
 pub returns-then-link-eq0 : goal.returns-then-link-eq0
-returns-then-link-eq0 c = let a = c.args in
-    mark_open a.links.now a.m.0 c.message_link_row-link.ensures c.if-link-eq0.true
+returns-then-link-eq0 c = mark_open c.args.links.now c.args.m.0 c.message_link_row-link.ensures c.if-link-eq0.true
 
 pub returns : goal.returns
-returns c = let a = c.args in
-    mark_shut a.links.now a.m.0 c.message_link_row-link.ensures c.if-link-eq0.false
+returns c = mark_shut c.args.links.now c.args.m.0 c.message_link_row-link.ensures c.if-link-eq0.false

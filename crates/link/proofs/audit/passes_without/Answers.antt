@@ -1,18 +1,12 @@
 -- `link::audit::passes_without` meets its contract. Assumes nothing.
+use mathlib.Core.Path.{◌≡◌, ap, ◌∙◌}
+use lib.Dec.{eqb}
+use Rattle.std.specs.Prelude.{ℕ}
+use Rattle.link.specs.declared.audit.Carried.TheVariants.{Required}
 use Rattle.link.proofs.AuditLaws.{syntax_alone}
 use Rattle.link.proofs.audit.passes_without.Goals as goal
 
-pub returns-in-Nothing : goal.returns-in-Nothing
-returns-in-Nothing c = rw c.in-Nothing.is
-
-pub returns-in-Required : goal.returns-in-Required
-returns-in-Required c = rw (c.in-Required.is, c.trailer_word.ensures, syntax_alone)
-
-pub returns-in-Optional : goal.returns-in-Optional
-returns-in-Optional c = rw c.in-Optional.is
-
-pub returns-in-Repeated : goal.returns-in-Repeated
-returns-in-Repeated c = rw c.in-Repeated.is
-
-pub returns-in-Map : goal.returns-in-Map
-returns-in-Map c = rw c.in-Map.is
+pub returns-in-Some-Required : goal.returns-in-Some-Required
+returns-in-Some-Required c =
+    let e : c.in-Some-Required.field-0 ≡ Required c.in-Some-Required.field-0-0 = rw c.in-Some-Required.is at c.in-Some-Required.field-0-is in
+    rw (c.in-Some-Required.is, e) (ap (λ (w : ℕ). eqb w 3) (c.trailer_word.ensures ∙ syntax_alone c.args.image.now))

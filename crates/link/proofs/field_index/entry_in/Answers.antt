@@ -1,10 +1,8 @@
 -- `link::field_index::entry_in` meets its contract. Assumes nothing.
-use mathlib.Core.Path.{refl}
-use Rattle.image.specs.Record.{File}
-use Rattle.link.proofs.FieldLaws.{entry_by}
+use Rattle.std.proofs.Common.{rules}
+use Rattle.image.specs.Schema.{schema_of, schema_in}
 use Rattle.link.proofs.field_index.entry_in.Goals as goal
 
 pub returns : goal.returns
-returns c = let a = c.args in
-    let file : File = record { image = a.image.now; pool = a.pool.now; links = a.links.now } in
-    rw (← entry_by file {image = a.image.now} {pool = a.pool.now} {links = a.links.now} refl c.read_sections-s.ensures refl refl a.m.0 c.message_row.ensures c.map_entry.ensures)
+unfolding schema_of schema_in
+returns c = search rules

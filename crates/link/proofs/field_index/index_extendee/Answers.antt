@@ -1,39 +1,36 @@
 -- `link::field_index::index_extendee` meets its contract. Assumes nothing.
-use mathlib.Core.Path.{◌≡◌, ap, ◌∙◌}
-use mathlib.Core.Bool.{true, false}
+use mathlib.Core.Path.{◌≡◌, sym, ap, ◌∙◌}
 use Rattle.lists.specs.Lists.{is_empty}
+use Rattle.lists.proofs.StdLaws.{empty_length}
 use Rattle.image.specs.Schema.{field_of}
-use Rattle.image.proofs.TextLaws.{empty_none, empty_some}
-use Rattle.link.specs.Sight.{sight_of}
+use Rattle.link.specs.Scope.{seen}
 use Rattle.link.specs.Search.{list_of}
 use Rattle.link.specs.Resolve.{target}
 use Rattle.link.specs.declared.building.Wanted.TheVariants.{Message}
 use Rattle.link.proofs.LinkedLaws.{extendee_absent, extendee_none, extendee_found, extendee_missing}
+use Rattle.link.proofs.field_index.index_extendee.Goals.{After-is_empty, After-resolve}
 use Rattle.link.proofs.field_index.index_extendee.Goals as goal
-use Rattle.link.proofs.field_index.index_extendee.Goals.{After-resolve-target, Else-name-eq0, Then-name-eq0}
 
--- the field has no extendee, or one
-empty : (c : Then-name-eq0) → is_empty (field_of c.args.row.now c.args.texts.now).extendee ≡ true
-empty c = empty_none (field_of c.args.row.now c.args.texts.now).extendee (rw c.text_of-name.ensures at c.if-name-eq0.true)
-
-filled : (c : Else-name-eq0) → is_empty (field_of c.args.row.now c.args.texts.now).extendee ≡ false
-filled c = empty_some (field_of c.args.row.now c.args.texts.now).extendee (rw c.text_of-name.ensures at c.if-name-eq0.false)
+-- whether there is one
+empty : (c : After-is_empty) → c.is_empty.result ≡ is_empty (field_of c.args.row.now c.args.texts.now).extendee
+empty c = c.is_empty.ensures ∙ empty_length _ ∙ ap is_empty c.text_of-name.ensures
 
 -- what was sought
-sought : (c : After-resolve-target) → c.resolve-target.result ≡ target Message (sight_of c.args.words.now c.args.bytes.now c.args.p c.args.n c.args.image.now c.args.pool.now c.args.links.now) (list_of c.args.list) (field_of c.args.row.now c.args.texts.now).extendee
-sought c = c.resolve-target.ensures ∙ ap (target Message (sight_of c.args.words.now c.args.bytes.now c.args.p c.args.n c.args.image.now c.args.pool.now c.args.links.now) (list_of c.args.list)) c.text_of-name.ensures
+sought : (c : After-resolve) → c.resolve.result ≡ target Message (seen c.args.scope.now) (list_of c.args.scope.now.list) (field_of c.args.row.now c.args.texts.now).extendee
+sought c = c.resolve.ensures ∙ ap (target Message (seen c.args.scope.now) (list_of c.args.scope.now.list)) c.text_of-name.ensures
 
 pub returns-then-file : goal.returns-then-file
-returns-then-file c = extendee_absent (sight_of c.args.words.now c.args.bytes.now c.args.p c.args.n c.args.image.now c.args.pool.now c.args.links.now) (list_of c.args.list) (field_of c.args.row.now c.args.texts.now) c.args.file c.args.at (empty (goal.at.returns-then-file c).Then-name-eq0) c.if-file.true c.no_pair.ensures
+returns-then-file c = rw c.at.ensures (extendee_absent (seen c.args.scope.now) (list_of c.args.scope.now.list) (field_of c.args.row.now c.args.texts.now) c.args.file c.args.at (sym (empty (goal.at.returns-then-file c).After-is_empty) ∙ c.if-is_empty.true) c.if-file.true)
 
-pub returns-then-name-eq0 : goal.returns-then-name-eq0
-returns-then-name-eq0 c = extendee_none (sight_of c.args.words.now c.args.bytes.now c.args.p c.args.n c.args.image.now c.args.pool.now c.args.links.now) (list_of c.args.list) (field_of c.args.row.now c.args.texts.now) c.args.file c.args.at (empty (goal.at.returns-then-name-eq0 c).Then-name-eq0) c.if-file.false c.pair.ensures
+pub returns-then-is_empty : goal.returns-then-is_empty
+returns-then-is_empty c = extendee_none (seen c.args.scope.now) (list_of c.args.scope.now.list) (field_of c.args.row.now c.args.texts.now) c.args.file c.args.at (sym (empty (goal.at.returns-then-is_empty c).After-is_empty) ∙ c.if-is_empty.true) c.if-file.false
 
-pub resolve-target-requires : goal.resolve-target-requires
-resolve-target-requires c = c.requires
+pub returns-in-Some : goal.returns-in-Some
+returns-in-Some c =
+    let r = goal.at.returns-in-Some c in
+    extendee_found (seen c.args.scope.now) (list_of c.args.scope.now.list) (field_of c.args.row.now c.args.texts.now) c.args.file c.args.at (sym (empty r.After-is_empty) ∙ c.if-is_empty.false) (sought r.After-resolve) c.in-Some.target c.in-Some.is
 
-pub returns-in-At : goal.returns-in-At
-returns-in-At c = extendee_found (sight_of c.args.words.now c.args.bytes.now c.args.p c.args.n c.args.image.now c.args.pool.now c.args.links.now) (list_of c.args.list) (field_of c.args.row.now c.args.texts.now) c.args.file c.args.at (filled (goal.at.returns-in-At c).Else-name-eq0) (sought (goal.at.returns-in-At c).After-resolve-target) c.in-At.word c.in-At.m c.in-At.is c.pair-in-At.ensures
-
-pub returns-in-Missing : goal.returns-in-Missing
-returns-in-Missing c = extendee_missing (sight_of c.args.words.now c.args.bytes.now c.args.p c.args.n c.args.image.now c.args.pool.now c.args.links.now) (list_of c.args.list) (field_of c.args.row.now c.args.texts.now) c.args.file c.args.at (filled (goal.at.returns-in-Missing c).Else-name-eq0) (sought (goal.at.returns-in-Missing c).After-resolve-target) c.in-Missing.is c.no_pair-in-Missing.ensures
+pub returns-in-None : goal.returns-in-None
+returns-in-None c =
+    let r = goal.at.returns-in-None c in
+    rw c.at-in-None.ensures (extendee_missing (seen c.args.scope.now) (list_of c.args.scope.now.list) (field_of c.args.row.now c.args.texts.now) c.args.file c.args.at (sym (empty r.After-is_empty) ∙ c.if-is_empty.false) (sought r.After-resolve) c.in-None.is)

@@ -1,31 +1,39 @@
 -- `link::field_index::index_field` meets its contract. Assumes nothing.
-use mathlib.Core.Path.{sym, ◌∙◌}
+use mathlib.Core.Path.{◌≡◌, ◌∙◌}
+use mathlib.Core.List.{[]}
+use Rattle.std.proofs.Common.{rules}
+use Rattle.std.specs.Prelude.{Err}
 use Rattle.image.specs.Schema.{field_of}
-use Rattle.link.specs.Sight.{sight_of}
+use Rattle.link.specs.Scope.{seen}
 use Rattle.link.specs.Search.{list_of}
-use Rattle.link.proofs.FileIndexLaws.{not_passed, default_stops, extendee_stops, type_decides, field_words_lem}
+use Rattle.link.specs.Field.{default_lines, default_part, extendee_lines, extendee_part, type_lines, type_part, field_words}
+use Rattle.link.proofs.JudgedLaws.{step_value}
+use Rattle.link.proofs.FileIndexLaws.{default_stops, extendee_stops, type_stops, field_passes, field_words_of}
 use Rattle.link.proofs.field_index.index_field.Goals as goal
 
-pub index_default-d-requires : goal.index_default-d-requires
-index_default-d-requires c = c.requires
+pub returns-in_err-d : goal.returns-in_err-d
+returns-in_err-d c =
+    let e : c.from_residual.result ≡ Err c.in_err-d.field-0.0 = search rules in
+    e ∙ default_stops (seen c.args.scope.now) (list_of c.args.scope.now.list) (field_of c.args.row.now c.args.scope.now.own.pool.now) c.args.file c.args.at c.index_default.ensures (field_words (seen c.args.scope.now) (list_of c.args.scope.now.list) (field_of c.args.row.now c.args.scope.now.own.pool.now) c.args.home c.args.container) c.in_err-d.was
 
-pub returns-in-Stopped : goal.returns-in-Stopped
-returns-in-Stopped c = record { verdict_value = c.not_linked.ensures ∙ default_stops (sight_of c.args.words.now c.args.bytes.now c.args.p c.args.n c.args.image.now c.args.pool.now c.args.links.now) (list_of c.args.list) (field_of c.args.row.now c.args.pool.now) c.args.file c.args.at c.index_default-d.ensures.verdict_value _ _ c.in-Stopped.is; words_value = λ e. not_passed _ _ (sym c.not_linked.ensures ∙ e) }
+pub returns-in_err-e : goal.returns-in_err-e
+returns-in_err-e c =
+    let e : c.from_residual-in_err-e.result ≡ Err c.in_err-e.field-0.0 = search rules in
+    e ∙ extendee_stops (seen c.args.scope.now) (list_of c.args.scope.now.list) (field_of c.args.row.now c.args.scope.now.own.pool.now) c.args.file c.args.at c.index_default.ensures c.in_ok-d.was c.index_extendee.ensures (field_words (seen c.args.scope.now) (list_of c.args.scope.now.list) (field_of c.args.row.now c.args.scope.now.own.pool.now) c.args.home c.args.container) c.in_err-e.was
 
-pub index_extendee-e-requires : goal.index_extendee-e-requires
-index_extendee-e-requires c = c.requires
-
-pub returns-in-Stopped-ev : goal.returns-in-Stopped-ev
-returns-in-Stopped-ev c = record { verdict_value = c.not_linked-in-Stopped-ev.ensures ∙ extendee_stops (sight_of c.args.words.now c.args.bytes.now c.args.p c.args.n c.args.image.now c.args.pool.now c.args.links.now) (list_of c.args.list) (field_of c.args.row.now c.args.pool.now) c.args.file c.args.at c.index_default-d.ensures.verdict_value c.in_default.is c.index_extendee-e.ensures.verdict_value _ _ c.in-Stopped-ev.is; words_value = λ e. not_passed _ _ (sym c.not_linked-in-Stopped-ev.ensures ∙ e) }
-
-pub index_type-t-requires : goal.index_type-t-requires
-index_type-t-requires c = c.requires
-
-pub returns-in-Stopped-tv : goal.returns-in-Stopped-tv
-returns-in-Stopped-tv c = record { verdict_value = c.not_linked-in-Stopped-tv.ensures ∙ sym c.in-Stopped-tv.is ∙ type_decides (sight_of c.args.words.now c.args.bytes.now c.args.p c.args.n c.args.image.now c.args.pool.now c.args.links.now) (list_of c.args.list) (field_of c.args.row.now c.args.pool.now) c.args.file c.args.at c.index_default-d.ensures.verdict_value c.in_default.is c.index_extendee-e.ensures.verdict_value c.in_default-ev.is c.index_type-t.ensures.verdict_value; words_value = λ e. not_passed _ _ (sym c.not_linked-in-Stopped-tv.ensures ∙ e) }
+pub returns-in_err-t : goal.returns-in_err-t
+returns-in_err-t c =
+    let e : c.from_residual-in_err-t.result ≡ Err c.in_err-t.field-0.0 = search rules in
+    e ∙ type_stops (seen c.args.scope.now) (list_of c.args.scope.now.list) (field_of c.args.row.now c.args.scope.now.own.pool.now) c.args.file c.args.at c.index_default.ensures c.in_ok-d.was c.index_extendee.ensures c.in_ok-e.was c.index_type.ensures (field_words (seen c.args.scope.now) (list_of c.args.scope.now.list) (field_of c.args.row.now c.args.scope.now.own.pool.now) c.args.home c.args.container) c.in_err-t.was
 
 pub returns : goal.returns
 returns c =
-    let dp = c.in_default.is in
-    let ep = c.in_default-ev.is in
-    let tp = c.in_default-tv.is in record { verdict_value = sym tp ∙ type_decides (sight_of c.args.words.now c.args.bytes.now c.args.p c.args.n c.args.image.now c.args.pool.now c.args.links.now) (list_of c.args.list) (field_of c.args.row.now c.args.pool.now) c.args.file c.args.at c.index_default-d.ensures.verdict_value dp c.index_extendee-e.ensures.verdict_value ep c.index_type-t.ensures.verdict_value; words_value = λ e. field_words_lem (sight_of c.args.words.now c.args.bytes.now c.args.p c.args.n c.args.image.now c.args.pool.now c.args.links.now) (list_of c.args.list) (field_of c.args.row.now c.args.pool.now) c.args.home c.args.container c.index_type-t.result.words c.kind_of.ensures (c.index_extendee-e.ensures.index_value ep) (c.index_type-t.ensures.words_value tp) (c.index_default-d.ensures.high_value dp) }
+    let a = c.args in
+    let s = seen a.scope.now in
+    let l = list_of a.scope.now.list in
+    let f = field_of a.row.now a.scope.now.own.pool.now in
+    let d = step_value (default_lines s l f a.at) [] (default_part s l f) c.index_default.ensures c.in_ok-d.was in
+    let e = step_value (extendee_lines s l f a.file a.at) [] (extendee_part s l f) c.index_extendee.ensures c.in_ok-e.was in
+    let t = step_value (type_lines s l f a.at) [] (type_part s l f) c.index_type.ensures c.in_ok-t.was in
+    field_passes s l f a.file a.at c.index_default.ensures c.in_ok-d.was c.index_extendee.ensures c.in_ok-e.was c.index_type.ensures c.in_ok-t.was
+    (field_words_of s l f a.home a.container c.in_ok-d.d c.in_ok-e.e c.in_ok-t.t c.kind_of.ensures d e t)

@@ -1,47 +1,59 @@
 -- `link::file_index::index_file` meets its contract. Assumes nothing.
-use mathlib.Core.Path.{◌≡◌, ap}
+use mathlib.Core.Path.{◌≡◌, refl, ap, ◌∙◌}
 use Prim.Native.Nat.{◌+◌, ◌-◌, ◌≤◌}
 use native.Mathlib.Omega.{arith}
+use Rattle.std.proofs.Common.{rules}
+use Rattle.std.specs.Prelude.{Err}
+use Rattle.image.specs.Schema.{schema_of}
 use Rattle.image.specs.Flat.{first_field}
-use Rattle.image.specs.Record.{says}
 use Rattle.image.specs.declared.rows.Range.{Range}
+use Rattle.image.specs.declared.rows.Rows.{Rows}
 use Rattle.image.proofs.Owned.{fields_end_lem}
-use Rattle.link.specs.Sight.{sight_of}
+use Rattle.link.specs.Scope.{seen}
 use Rattle.link.specs.Search.{list_of}
-use Rattle.link.proofs.FileIndexLaws.{not_passed, fields_said, file_said, file_inside, messages_stop, file_decides, file_written}
+use Rattle.link.proofs.FileIndexLaws.{fields_said, file_said, file_inside, messages_stop, file_decides, file_written}
+use Rattle.link.proofs.file_index.index_file.Goals.{After-read-fields}
 use Rattle.link.proofs.file_index.index_file.Goals as goal
-use Rattle.link.proofs.file_index.index_file.Goals.{After-count_of-fields}
 
-own-extensions : (c : After-count_of-fields) → (c.file_extensions-extensions.result) ≡ (says (sight_of c.args.words.now c.args.bytes.now c.args.p c.args.n c.args.image.now c.args.pool.now c.args.links.now).own).file_extensions
-own-extensions c = let a = c.args in file_said a.image.now a.pool.now c.file_extensions-extensions.ensures
+own-extensions : (c : After-read-fields) → c.file_extensions-extensions.result ≡ (schema_of c.args.scope.now.own.image.now c.args.scope.now.own.pool.now).file_extensions
+own-extensions c = file_said c.args.scope.now.own.image.now c.args.scope.now.own.pool.now c.file_extensions-extensions.ensures
 
 -- how many fields there are, and the flat number of the first extension
-size : (c : After-count_of-fields) → c.count_of-fields.result ≡ (says (sight_of c.args.words.now c.args.bytes.now c.args.p c.args.n c.args.image.now c.args.pool.now c.args.links.now).own).fields
-size c = let a = c.args in fields_said a.image.now a.pool.now c.read_sections.ensures c.count_of-fields.ensures
+size : (c : After-read-fields) → c.read-fields.result.sections.fields.count ≡ (schema_of c.args.scope.now.own.image.now c.args.scope.now.own.pool.now).fields
+size c = fields_said c.args.scope.now.own.image.now c.args.scope.now.own.pool.now (ap (λ (x : Rows). x.sections) c.read-fields.ensures) refl
 
-behind : (c : After-count_of-fields) → first_field (says (sight_of c.args.words.now c.args.bytes.now c.args.p c.args.n c.args.image.now c.args.pool.now c.args.links.now).own) (says (sight_of c.args.words.now c.args.bytes.now c.args.p c.args.n c.args.image.now c.args.pool.now c.args.links.now).own).messages + (c.file_extensions-extensions.result).count ≡ c.count_of-fields.result
+behind : (c : After-read-fields) → first_field (schema_of c.args.scope.now.own.image.now c.args.scope.now.own.pool.now) (schema_of c.args.scope.now.own.image.now c.args.scope.now.own.pool.now).messages + c.file_extensions-extensions.result.count ≡ c.read-fields.result.sections.fields.count
 behind c =
     let n = ap (λ (x : Range). x.count) (own-extensions c) in
-    omega (arith, size c, fields_end_lem (says (sight_of c.args.words.now c.args.bytes.now c.args.p c.args.n c.args.image.now c.args.pool.now c.args.links.now).own) (c.requires.sound))
+    omega (arith, size c, fields_end_lem (schema_of c.args.scope.now.own.image.now c.args.scope.now.own.pool.now) c.requires.sound)
 
-place : (c : After-count_of-fields) → c.count_of-fields.result - (c.file_extensions-extensions.result).count ≡ first_field (says (sight_of c.args.words.now c.args.bytes.now c.args.p c.args.n c.args.image.now c.args.pool.now c.args.links.now).own) (says (sight_of c.args.words.now c.args.bytes.now c.args.p c.args.n c.args.image.now c.args.pool.now c.args.links.now).own).messages
+place : (c : After-read-fields) → c.read-fields.result.sections.fields.count - c.file_extensions-extensions.result.count ≡ first_field (schema_of c.args.scope.now.own.image.now c.args.scope.now.own.pool.now) (schema_of c.args.scope.now.own.image.now c.args.scope.now.own.pool.now).messages
 place c = omega (arith, behind c)
 
-fits : (c : After-count_of-fields) → c.count_of-fields.result - (c.file_extensions-extensions.result).count + (c.file_extensions-extensions.result).count ≤ (says (sight_of c.args.words.now c.args.bytes.now c.args.p c.args.n c.args.image.now c.args.pool.now c.args.links.now).own).fields
+fits : (c : After-read-fields) → c.read-fields.result.sections.fields.count - c.file_extensions-extensions.result.count + c.file_extensions-extensions.result.count ≤ (schema_of c.args.scope.now.own.image.now c.args.scope.now.own.pool.now).fields
 fits c = omega (arith, behind c, size c)
 
-pub index_messages-v-requires : goal.index_messages-v-requires
-index_messages-v-requires c = c.requires
-
-pub returns-in-Stopped : goal.returns-in-Stopped
-returns-in-Stopped c = record { value = messages_stop (sight_of c.args.words.now c.args.bytes.now c.args.p c.args.n c.args.image.now c.args.pool.now c.args.links.now) (list_of c.args.list) (c.requires.sound) c.index_messages-v.ensures.value _ _ c.in-Stopped.is; rows_after = λ e. not_passed _ _ e }
+pub returns-in_err-index_messages-clause-value : goal.returns-in_err-index_messages-clause-value
+returns-in_err-index_messages-clause-value c =
+    let e : c.from_residual.result ≡ Err c.in_err-index_messages.field-0.0 = search rules in
+    e ∙ messages_stop (seen c.args.scope.now) (list_of c.args.scope.now.list) c.requires.sound c.index_messages.ensures.value _ c.in_err-index_messages.was
 
 pub overflow_sub-fields : goal.overflow_sub-fields
-overflow_sub-fields c = omega (arith, behind (goal.at.overflow_sub-fields c).After-count_of-fields)
+overflow_sub-fields c = omega (arith, behind (goal.at.overflow_sub-fields c).After-read-fields)
 
 pub index_fields-requires : goal.index_fields-requires
-index_fields-requires c = record { below = c.requires.below; n_bound = c.requires.n_bound; count_bound = c.requires.count_bound; count_bound_2 = rw (own-extensions (goal.at.index_fields-requires c).After-count_of-fields) (file_inside (says (sight_of c.args.words.now c.args.bytes.now c.args.p c.args.n c.args.image.now c.args.pool.now c.args.links.now).own) (c.requires.sound)); count_bound_3 = omega (arith, fits (goal.at.index_fields-requires c).After-count_of-fields, (c.requires.sound).few_fields); count_in_bounds = omega (arith, fits (goal.at.index_fields-requires c).After-count_of-fields, c.index_messages-v.auto.rows, c.requires.pool_in_bounds) }
+index_fields-requires c =
+    let r = (goal.at.index_fields-requires c).After-read-fields in
+    record {
+      rows_bound = rw (own-extensions r) (file_inside (schema_of c.args.scope.now.own.image.now c.args.scope.now.own.pool.now) c.requires.sound);
+      numbers_bound = omega (arith, fits r, c.requires.sound.few_fields);
+      numbers_in_bounds = omega (arith, fits r, c.index_messages.auto.rows, c.requires.fields_in_bounds);
+    }
 
 pub returns : goal.returns
 returns c =
-    let passed = c.in_default.is in record { value = file_decides (sight_of c.args.words.now c.args.bytes.now c.args.p c.args.n c.args.image.now c.args.pool.now c.args.links.now) (list_of c.args.list) (c.requires.sound) c.index_messages-v.ensures.value passed (own-extensions (goal.at.returns c).After-count_of-fields) (place (goal.at.returns c).After-count_of-fields) c.index_fields.ensures.value; rows_after = λ p. file_written (sight_of c.args.words.now c.args.bytes.now c.args.p c.args.n c.args.image.now c.args.pool.now c.args.links.now) (list_of c.args.list) (c.requires.sound) c.args.rows.now (own-extensions (goal.at.returns c).After-count_of-fields) (place (goal.at.returns c).After-count_of-fields) c.requires.pool_in_bounds (c.index_messages-v.ensures.rows_after passed) (c.index_fields.ensures.rows_after p) }
+    let r = (goal.at.returns c).After-read-fields in
+    record {
+      value = file_decides (seen c.args.scope.now) (list_of c.args.scope.now.list) c.requires.sound c.index_messages.ensures.value c.in_ok-index_messages.was (own-extensions r) (place r) c.index_fields.ensures.value;
+      rows_after = λ p. file_written (seen c.args.scope.now) (list_of c.args.scope.now.list) c.requires.sound c.args.rows.now (own-extensions r) (place r) c.requires.fields_in_bounds (c.index_messages.ensures.rows_after c.in_ok-index_messages.was) (c.index_fields.ensures.rows_after p);
+    }

@@ -1,12 +1,13 @@
 -- `link::file_lookup::field_by_name` meets its contract. Assumes nothing.
-use Rattle.link.specs.Lookup.{mode_of, by_mode, field_named}
-use Rattle.link.proofs.FileLookupLaws.{message_bad, message_good}
+use borrow.Author.Tests.{lt-ltb, le-ltb}
+use Rattle.image.specs.Schema.{schema_in, schema_of}
+use Rattle.link.specs.Lookup.{field_named}
 use Rattle.link.proofs.file_lookup.field_by_name.Goals as goal
 
-pub returns-then-count_of-message : goal.returns-then-count_of-message
-unfolding field_named
-returns-then-count_of-message c = message_bad (record { image = c.args.image.now; pool = c.args.pool.now; links = c.args.links.now }) c.read_sections-s.ensures c.args.message c.count_of.ensures (λ g row. by_mode (mode_of c.args.mode) g row c.args.name.now) c.if-count_of-message.true
+pub returns-then-image-message : goal.returns-then-image-message
+unfolding field_named schema_of schema_in
+returns-then-image-message c = simp (le-ltb _ _ (rw c.read-image.ensures at c.if-image-message.true))
 
 pub returns : goal.returns
-unfolding field_named
-returns c = message_good (record { image = c.args.image.now; pool = c.args.pool.now; links = c.args.links.now }) c.read_sections-s.ensures c.args.message c.count_of.ensures (λ g row. by_mode (mode_of c.args.mode) g row c.args.name.now) c.if-count_of-message.false c.message_row-row.ensures (rw c.mode_of.ensures at c.by_mode-found.ensures) c.flat_field.ensures
+unfolding field_named schema_of schema_in
+returns c = simp (lt-ltb _ _ (rw c.read-image.ensures at c.if-image-message.false)) (rw (c.by_mode-found.ensures, c.mode_of.ensures, c.message_row-row.ensures, c.read-image.ensures) at c.flat_field.ensures)

@@ -1,13 +1,13 @@
 -- `link::file_lookup::value_by_name` meets its contract. Assumes nothing.
-use Rattle.image.specs.Values.{value_by_name}
+use borrow.Author.Tests.{lt-ltb, le-ltb}
+use Rattle.image.specs.Schema.{schema_in, schema_of}
 use Rattle.link.specs.Lookup.{value_named}
-use Rattle.link.proofs.FileLookupLaws.{enum_bad, enum_good}
 use Rattle.link.proofs.file_lookup.value_by_name.Goals as goal
 
-pub returns-then-count_of-index : goal.returns-then-count_of-index
-unfolding value_named
-returns-then-count_of-index c = enum_bad (record { image = c.args.image.now; pool = c.args.pool.now; links = c.args.links.now }) c.read_sections-s.ensures c.args.index c.count_of.ensures (λ g row. value_by_name g row c.args.name.now) c.if-count_of-index.true
+pub returns-then-image-index : goal.returns-then-image-index
+unfolding value_named schema_of schema_in
+returns-then-image-index c = simp (le-ltb _ _ (rw c.read-image.ensures at c.if-image-index.true))
 
 pub returns : goal.returns
-unfolding value_named
-returns c = enum_good (record { image = c.args.image.now; pool = c.args.pool.now; links = c.args.links.now }) c.read_sections-s.ensures c.args.index c.count_of.ensures (λ g row. value_by_name g row c.args.name.now) c.if-count_of-index.false c.enum_row-row.ensures c.value_by_name.ensures
+unfolding value_named schema_of schema_in
+returns c = simp (lt-ltb _ _ (rw c.read-image.ensures at c.if-image-index.false)) (rw (c.enum_row-row.ensures, c.read-image.ensures) at c.value_by_name.ensures)

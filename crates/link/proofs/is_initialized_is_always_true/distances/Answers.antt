@@ -1,33 +1,47 @@
 -- `link::is_initialized_is_always_true::distances` meets its contract. Assumes nothing.
-use mathlib.Core.Path.{sym, ◌∙◌}
-use Prim.Native.Nat.{◌≤◌, ◌<◌, ◌+◌}
+use mathlib.Core.Path.{◌≡◌, sym, ap, ◌∙◌}
+use Prim.Native.Nat.{ℕ, ◌+◌, ◌-◌, ◌<◌}
 use native.Mathlib.Omega.{arith}
-use borrow.Author.Rules.{rules}
-use borrow.Author.Tests.{not-true}
+use Rattle.std.proofs.Common.{rules}
 use Rattle.link.specs.Edges.{graph_by}
 use Rattle.link.proofs.TurnLaws.{All}
 use Rattle.link.proofs.RoundLaws.{word_at, seeded-word, turned, stopped, at_end, outcome}
 use Rattle.link.proofs.is_initialized_is_always_true.distances.Goals as goal
 
-pub loop-h-init : goal.loop-h-init
-loop-h-init c = let a = c.args in
-    (omega arith, omega arith, search rules, λ j l. c.seed-w.ensures j l ∙ seeded-word a.edges.now a.m a.cause.now a.n j)
+pub loop-k-init : goal.loop-k-init
+loop-k-init c = let a = c.args in (omega arith, search rules, λ j l. c.seed-d.ensures j l ∙ seeded-word a.edges.now a.m a.cause.now a.n j)
 
-pub turn-r-requires : goal.turn-r-requires
-turn-r-requires c = (omega arith, omega arith, record { ends = λ x l. let r = c.requires.2.ends x l in (omega arith, omega arith) })
+pub loop-k-preserved : goal.loop-k-preserved
+loop-k-preserved c =
+    let a = c.args in
+    let g = graph_by a.edges.now a.m a.cause.now a.n in
+    let k = c.loop-k.k - 1 in
+    let e : c.loop-k.k ≡ k + 1 = omega (arith, c.loop-k.auto.k) in
+    let room : k + 1 < a.n = omega (arith, e, c.loop-k-test.true) in (
+      omega (arith, e, room),
+      search rules,
+      λ j l.
+          c.turn.ensures.words c.in-Some.next c.in-Some.is j l
+          ∙ turned a.edges.now a.m a.cause.now a.n c.requires.0 c.requires.2 c.loop-k.d k room (λ i m. c.loop-k.invariant.2 i m ∙ ap (λ (x : ℕ). word_at g x i) e) j l
+          ∙ ap (λ (x : ℕ). word_at g (x + 1) j) (sym e),
+    )
 
-pub loop-h-preserved : goal.loop-h-preserved
-loop-h-preserved c = let few : c.args.n ≤ 256 = c.requires.0 in
-    let room : c.loop-h.k + 1 < c.args.n = omega (arith, c.loop-h-test.true) in
-    (omega arith, omega arith, search rules, λ j m. c.turn-r.ensures.words j m ∙ turned c.args.edges.now c.args.m c.args.cause.now c.args.n few c.requires.2 c.loop-h.d c.loop-h.k room c.loop-h.invariant.3 j m)
+pub returns-after-loop-k : goal.returns-after-loop-k
+returns-after-loop-k c =
+    let a = c.args in
+    let g = graph_by a.edges.now a.m a.cause.now a.n in
+    let k = c.loop-k.k - 1 in
+    let e : c.loop-k.k ≡ k + 1 = omega (arith, c.loop-k.auto.k) in
+    let full : All c.loop-k.d (word_at g a.n) = λ j l. c.loop-k.invariant.2 j l ∙ ap (λ (x : ℕ). word_at g x j) e ∙ at_end g k j c.loop-k.invariant.0 (omega (arith, e, c.loop-k-test.false)) in
+    outcome a.edges.now a.m a.cause.now a.n c.loop-k.d c.loop-k.invariant.1 full
 
-pub returns-after-loop-h : goal.returns-after-loop-h
-returns-after-loop-h c = let g = graph_by c.args.edges.now c.args.m c.args.cause.now c.args.n in
-    let full : All c.loop-h.d (word_at g c.args.n) = λ j m. c.loop-h.invariant.3 j m ∙ at_end g c.loop-h.k j c.loop-h.invariant.0 (omega arith) in
-    outcome c.args.edges.now c.args.m c.args.cause.now c.args.n c.loop-h.d c.loop-h.invariant.2 full
-
-pub returns-then-not-r : goal.returns-then-not-r
-returns-then-not-r c = let few : c.args.n ≤ 256 = c.requires.0 in
-    let room : c.loop-h.k + 1 < c.args.n = omega (arith, c.loop-h-test.true) in
-    outcome c.args.edges.now c.args.m c.args.cause.now c.args.n c.loop-h.d c.loop-h.invariant.2
-    (λ j m. c.loop-h.invariant.3 j m ∙ stopped c.args.edges.now c.args.m c.args.cause.now c.args.n few c.requires.2 c.loop-h.d c.loop-h.k room c.loop-h.invariant.3 (λ i li. sym (c.turn-r.ensures.words i li) ∙ c.turn-r.ensures.same (not-true c.turn-r.result.changed c.if-not-r.true) i li) j)
+pub returns-in_default : goal.returns-in_default
+returns-in_default c =
+    let a = c.args in
+    let g = graph_by a.edges.now a.m a.cause.now a.n in
+    let k = c.loop-k.k - 1 in
+    let e : c.loop-k.k ≡ k + 1 = omega (arith, c.loop-k.auto.k) in
+    let room : k + 1 < a.n = omega (arith, e, c.loop-k-test.true) in
+    let words : All c.loop-k.d (word_at g (k + 1)) = λ i m. c.loop-k.invariant.2 i m ∙ ap (λ (x : ℕ). word_at g x i) e in
+    outcome a.edges.now a.m a.cause.now a.n c.loop-k.d c.loop-k.invariant.1
+    (λ j m. words j m ∙ stopped a.edges.now a.m a.cause.now a.n c.requires.0 c.requires.2 c.loop-k.d k room words (c.turn.ensures.same c.in_default.is) j)

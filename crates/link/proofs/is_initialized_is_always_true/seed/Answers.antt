@@ -1,6 +1,4 @@
 -- `link::is_initialized_is_always_true::seed` meets its contract. Assumes nothing.
-use mathlib.Core.Path.{◌≡◌}
-use native.Mathlib.Omega.{arith}
 use Rattle.link.proofs.TurnLaws.{seeding_start, seeding_hit, seeding_miss}
 use Rattle.link.proofs.is_initialized_is_always_true.seed.Goals as goal
 use Rattle.link.proofs.is_initialized_is_always_true.seed.Goals.{then-cause-i-ne0, else-cause-i-ne0}
@@ -14,6 +12,3 @@ loop-i-preserved c = let b = c.loop-i-test.true in
       | then-cause-i-ne0 w ↦ seeding_hit c.requires c.loop-i.invariant b w.if-cause-i-ne0.true w.d-is
       | else-cause-i-ne0 w ↦ seeding_miss c.loop-i.invariant b w.if-cause-i-ne0.false w.d-is
     ]
-
-pub returns : goal.returns
-returns c = let e : c.loop-i.i ≡ c.args.n = omega arith in rw e at c.loop-i.invariant.words

@@ -1,10 +1,6 @@
 -- `link::is_initialized_is_always_true::turn` meets its contract. Assumes nothing.
-use Prim.Native.Nat.{◌-◌}
 use Rattle.link.proofs.TurnLaws.{Turning}
 use Rattle.link.proofs.is_initialized_is_always_true.turn.Given as goal
 
 abbrev pub invariant-loop-e : goal.invariant-loop-e
 invariant-loop-e l = Turning l.edges l.m l.k l.old l.e l.d l.changed
-
-abbrev pub decreases-loop-e : goal.decreases-loop-e
-decreases-loop-e l = l.m - l.e

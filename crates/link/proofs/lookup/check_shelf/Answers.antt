@@ -1,14 +1,18 @@
 -- `link::lookup::check_shelf` meets its contract. Assumes nothing.
-use borrow.Author.Tests.{not-true, not-false}
-use Rattle.link.specs.Lookup.{asked}
+use mathlib.Core.Path.{◌≡◌, sym, ◌∙◌}
+use Rattle.std.proofs.Common.{rules}
+use Rattle.std.specs.Prelude.{Err}
+use Rattle.link.specs.Lookup.{asked_of}
 use Rattle.link.proofs.LookupLaws.{checked_long, checked_broken, checked_fine}
 use Rattle.link.proofs.lookup.check_shelf.Goals as goal
 
-pub returns-in-Stopped : goal.returns-in-Stopped
-returns-in-Stopped c = checked_long (asked c.args.words.now c.args.bytes.now c.args.used) c.judge_lengths-lengths.ensures c.read_shelf-places.ensures c.in-Stopped.is
+pub returns-in_err-judge_lengths : goal.returns-in_err-judge_lengths
+returns-in_err-judge_lengths c =
+    let h : c.from_residual.result ≡ Err c.in_err-judge_lengths.field-0.0 = search rules in
+    h ∙ checked_long (asked_of c.args.lent.now) c.judge_lengths.ensures c.in_err-judge_lengths.was
 
-pub returns-then-not-places : goal.returns-then-not-places
-returns-then-not-places c = checked_broken (asked c.args.words.now c.args.bytes.now c.args.used) c.judge_lengths-lengths.ensures c.read_shelf-places.ensures c.in_default.is (not-true c.read_shelf-places.result.whole c.if-not-places.true)
+pub returns-in-Some : goal.returns-in-Some
+returns-in-Some c = checked_fine (asked_of c.args.lent.now) c.judge_lengths.ensures c.in_ok-judge_lengths.was (sym c.in-Some.is ∙ c.read_shelf.ensures)
 
-pub returns : goal.returns
-returns c = checked_fine (asked c.args.words.now c.args.bytes.now c.args.used) c.judge_lengths-lengths.ensures c.read_shelf-places.ensures c.in_default.is (not-false c.read_shelf-places.result.whole c.if-not-places.false)
+pub returns-in-None : goal.returns-in-None
+returns-in-None c = rw c.at.ensures (checked_broken (asked_of c.args.lent.now) c.judge_lengths.ensures c.in_ok-judge_lengths.was (sym c.in-None.is ∙ c.read_shelf.ensures))

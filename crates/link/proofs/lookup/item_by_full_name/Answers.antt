@@ -1,10 +1,18 @@
 -- `link::lookup::item_by_full_name` meets its contract. Assumes nothing.
-use Rattle.link.specs.Lookup.{asked, item_named}
-use Rattle.link.proofs.LookupLaws.{looked_done, looked_on}
+use mathlib.Core.Path.{◌≡◌, ◌∙◌}
+use Rattle.std.proofs.Common.{rules}
+use Rattle.std.specs.Prelude.{Err}
+use Rattle.link.specs.Lookup.{asked_of, item_named}
+use Rattle.link.proofs.LookupLaws.{looked_refused, looked_none, looked_there}
 use Rattle.link.proofs.lookup.item_by_full_name.Goals as goal
 
-pub returns-in-Done : goal.returns-in-Done
-returns-in-Done c = looked_done (asked c.args.words.now c.args.bytes.now c.args.used) c.args.file c.open_file-opened.ensures c.in-Done.is (λ x. item_named c.args.wanted x c.args.name.now)
+pub returns-in_err-file : goal.returns-in_err-file
+returns-in_err-file c =
+    let h : c.from_residual.result ≡ Err c.in_err-file.field-0.0 = search rules in
+    h ∙ looked_refused (asked_of c.args.lent.now) c.args.file c.open_file.ensures (λ x. item_named c.args.wanted x c.args.name.now) c.in_err-file.was
+
+pub returns-in_default : goal.returns-in_default
+returns-in_default c = looked_none (asked_of c.args.lent.now) c.args.file c.open_file.ensures (λ x. item_named c.args.wanted x c.args.name.now) c.in_ok-file.was c.in_default.is
 
 pub returns : goal.returns
-returns c = looked_on (asked c.args.words.now c.args.bytes.now c.args.used) c.args.file c.open_file-opened.ensures c.in_default.is c.file_image-image.ensures c.file_pool-pool.ensures c.file_links-links.ensures (λ x. item_named c.args.wanted x c.args.name.now) c.item_by_full_name.ensures c.answered.ensures
+returns c = looked_there (asked_of c.args.lent.now) c.args.file c.open_file.ensures (λ x. item_named c.args.wanted x c.args.name.now) c.in_ok-file.was c.in-Some.is c.item_by_full_name.ensures

@@ -1,13 +1,14 @@
 -- `link::lookup::open_file` meets its contract. Assumes nothing.
-use Rattle.link.specs.Lookup.{asked}
+use mathlib.Core.Path.{sym, ◌∙◌}
+use Rattle.link.specs.Lookup.{asked_of}
 use Rattle.link.proofs.LookupLaws.{opened_refused, opened_bad, opened_there}
 use Rattle.link.proofs.lookup.open_file.Goals as goal
 
-pub returns-in-Stopped : goal.returns-in-Stopped
-returns-in-Stopped c = opened_refused (asked c.args.words.now c.args.bytes.now c.args.used) c.args.file c.check_shelf-checked.ensures c.in-Stopped.is
+pub returns-then-lent-file : goal.returns-then-lent-file
+returns-then-lent-file c = opened_bad (asked_of c.args.lent.now) c.args.file (sym c.in-Ok.is ∙ c.check_shelf.ensures) c.if-lent-file.true
 
-pub returns-then-used-file : goal.returns-then-used-file
-returns-then-used-file c = opened_bad (asked c.args.words.now c.args.bytes.now c.args.used) c.args.file c.check_shelf-checked.ensures c.in_default.is c.if-used-file.true
+pub returns-in-Err : goal.returns-in-Err
+returns-in-Err c = opened_refused (asked_of c.args.lent.now) c.args.file (sym c.in-Err.is ∙ c.check_shelf.ensures)
 
-pub returns : goal.returns
-returns c = opened_there (asked c.args.words.now c.args.bytes.now c.args.used) c.args.file c.check_shelf-checked.ensures c.in_default.is c.if-used-file.false
+pub returns-else-lent-file : goal.returns-else-lent-file
+returns-else-lent-file c = opened_there (asked_of c.args.lent.now) c.args.file (sym c.in-Ok.is ∙ c.check_shelf.ensures) c.if-lent-file.false c.file.ensures
