@@ -7,6 +7,7 @@ use Prim.Native.Nat.{ℕ, ◌+◌, ◌*◌, ◌<◌, ◌≤◌}
 use native.Mathlib.Omega.{arith}
 use lib.Dec.{eqb, ltb}
 use borrow.Author.Tests.{lt-ltb, ltb-true, eq-eqb, ne_eqb, eqb-true, eqb-false}
+use Rattle.std.specs.Prelude.{Option, Some, None, is_some, IsSomeAnd}
 use Rattle.lists.specs.Below.{first_below}
 use Rattle.lists.specs.Lists.{same}
 use Rattle.lists.proofs.Cases.{by, clash, left, right, or-true}
@@ -18,16 +19,13 @@ use Rattle.image.specs.Links.{message_row}
 use Rattle.image.specs.Clash.{field_by_name}
 use Rattle.image.specs.Record.{File, says}
 use Rattle.image.specs.LinkTests.{mark_fits, marks_fit, no_distance}
-use Rattle.image.specs.declared.rows.Found.{Found}
-use Rattle.image.specs.declared.rows.Found.TheVariants as found
 use Rattle.link.specs.Field.{field_in}
-use Rattle.link.specs.Lookup.{first_field_word}
 use Rattle.link.specs.Marks.{own_cause}
-use Rattle.link.specs.Audit.{says_alone, always_of, distance_of, mark_by, read_mark, label_of, number_of, by_label, shape_at, carried_at, carried_under, carries, is_required, passes_without}
+use Rattle.link.specs.Audit.{says_alone, always_of, distance_of, mark_by, read_mark, label_of, number_of, by_label, carried_at, carried_under, is_required, passes_without}
 use Rattle.link.specs.declared.audit.Mark.TheVariants.{AlwaysInitialised, MayBeIncomplete}
 use Rattle.link.specs.declared.audit.Carried.{Carried}
-use Rattle.link.specs.declared.audit.Carried.TheVariants.{Nothing, Required, Optional, Repeated, Map}
-use Rattle.demands.proofs.LookupTheorems.{none_not}
+use Rattle.link.specs.declared.audit.Carried.TheVariants.{Required, Optional, Repeated, Map}
+use Rattle.demands.proofs.LookupTheorems.{none_not, found_told}
 
 -- ---- what an image says without its pool is what the file says
 
@@ -36,9 +34,10 @@ module _ (file : File) where
   unfolding schema_of schema_in
   file_messages = refl
 
-  pub file_passes : (c : Carried) → passes_without (says_alone file.image) c ≡ passes_without (says file) c
+  pub file_passes : (c : Option Carried) → passes_without (says_alone file.image) c ≡ passes_without (says file) c
   unfolding schema_of schema_in
-  file_passes c = refl
+  file_passes None = refl
+  file_passes (Some c) = refl
 
 -- ---- what a mark tells: the two words of the link row, and a distance below the file's messages
 
@@ -64,8 +63,7 @@ module _ (n always distance : ℕ) (fit : mark_fits n always distance ≡ true) 
       rw is at (ltb-true distance n (rw e at fit)))
       (λ e.
       let other : AlwaysInitialised ≡ MayBeIncomplete d = rw e at t in
-      let z : ◌≡◌ {A = ℕ} 0 1 = cc in
-      absurd (omega arith))
+      cc)
 
 module _ (g : Schema) (links : List ℕ) (fit : marks_fit g links ≡ true) (m : ℕ) (h : m < g.messages) where
   mark_fits_lem : mark_fits g.messages (word_at links (m * 10 + 8)) (word_at links (m * 10 + 9)) ≡ true
@@ -104,73 +102,61 @@ number_told label shape number = carried_cases (λ c. number_of c ≡ number) la
 -- a repeated field is a map exactly if its shape word is 2
 pub map_told : (shape number : ℕ) → (by_label 3 shape number ≡ Map number) ↔ (shape ≡ 2)
 map_told shape number = (
-  (λ t. by (eqb shape 2) (eqb-true shape 2) (λ s. let p : Repeated number ≡ Map number = rw s at t in let z : ◌≡◌ {A = ℕ} 0 1 = cc in absurd (omega arith))),
+  (λ t. by (eqb shape 2) (eqb-true shape 2) (λ s. let p : Repeated number ≡ Map number = rw s at t in cc)),
   (λ t. rw (eq-eqb shape 2 t)),
 )
 
 -- a field is required exactly if its label is 2, whatever its shape
-field-required : (file : File) (m j : ℕ) → is_required (carried_at file m (found.At j)) ≡ eqb (field_in file m j).label 2
-field-required file m j =
-    let label = (field_in file m j).label in
-    carried_cases
-    (λ c. is_required c ≡ eqb label 2)
-    label
-    (shape_at file (first_field_word file.links m + j))
-    (field_in file m j).number
+field-required : (label shape number : ℕ) → is_required (by_label label shape number) ≡ eqb label 2
+field-required label shape number =
+    carried_cases (λ c. is_required c ≡ eqb label 2) label shape number
     (λ e. sym (eq-eqb label 2 e))
     (λ e. rw e)
     (λ e. rw e)
     (λ e f. sym (ne_eqb label 2 e))
 
 module _ (file : File) (m : ℕ) (name : List ℕ) where
-  found_required : (at : Found) → (is_required (carried_at file m at) ≡ true) ↔ ((j : ℕ) × (at ≡ found.At j) × ((field_in file m j).label ≡ 2))
-  found_required found.Nothing = ((λ t. clash false t refl), (λ t. none_not t.0 t.1))
-  found_required (found.At j) = (
-    (λ t. (j, refl, eqb-true (field_in file m j).label 2 (sym (field-required file m j) ∙ t))),
-    (λ t. let is : j ≡ t.0 = let p = t.1 in cc in field-required file m j ∙ eq-eqb (field_in file m j).label 2 (rw is t.2)),
+  found_required : (at : Option ℕ) → IsSomeAnd (carried_at file m at) (λ c. is_required c ≡ true) ↔ ((j : ℕ) × (at ≡ Some j) × ((field_in file m j).label ≡ 2))
+  found_required None = ((λ t. absurd t), (λ t. none_not t.0 t.1))
+  found_required (Some j) = (
+    (λ t. (j, refl, eqb-true (field_in file m j).label 2 (sym (field-required (field_in file m j).label _ _) ∙ t))),
+    (λ t. let is : j ≡ t.0 = let p = t.1 in cc in field-required (field_in file m j).label _ _ ∙ eq-eqb (field_in file m j).label 2 (rw is t.2)),
   )
 
   -- What a message carries under a name is required exactly if the first regular field of that name has label 2.
   pub required_told : m < (says file).messages
-      → (is_required (carried_under file m name) ≡ true)
-      ↔ ((j : ℕ) × (field_by_name (says file) (message_row file.links m) name ≡ found.At j) × ((field_in file m j).label ≡ 2))
+      → IsSomeAnd (carried_under file m name) (λ c. is_required c ≡ true)
+      ↔ ((j : ℕ) × (field_by_name (says file) (message_row file.links m) name ≡ Some j) × ((field_in file m j).label ≡ 2))
   unfolding carried_under
   required_told h = rw (lt-ltb m (says file).messages h) (found_required (field_by_name (says file) (message_row file.links m) name))
 
 -- ---- a field that the completeness check cannot pass without is a cause of its message's own
 
 -- a field that is found is one of the message's
-found_below_lem : (g : Schema) (r : ℕ) (name : List ℕ) (j : ℕ) → field_by_name g r name ≡ found.At j → j < (g.fields_in r).count
+found_below_lem : (g : Schema) (r : ℕ) (name : List ℕ) (j : ℕ) → field_by_name g r name ≡ Some j → j < (g.fields_in r).count
 unfolding field_by_name
-found_below_lem g r name j t =
-    let n = (g.fields_in r).count in
-    let k = first_below n (λ i. same (regular g r i).name name) n in
-    by
-    (ltb k n)
-    (λ e. let is : k ≡ j = let p : found.At k ≡ found.At j = rw e at t in cc in rw is at (ltb-true k n e))
-    (λ e. let p : found.Nothing ≡ found.At j = rw e at t in let z : ◌≡◌ {A = ℕ} 0 1 = cc in absurd (omega arith))
+found_below_lem g r name j t = (found_told (g.fields_in r).count (first_below (g.fields_in r).count (λ i. same (regular g r i).name name) (g.fields_in r).count) j t).1
 
 required_is-cause : (g : Schema) (r j : ℕ) → j < (g.fields_in r).count → eqb (regular g r j).label 2 ≡ true → eqb g.syntax 3 ≡ false → own_cause g r ≡ true
 unfolding own_cause
 required_is-cause g r j h t x = rw (x, any_below_hit (g.fields_in r).count (λ k. eqb (regular g r k).label 2) j h t, or-true (not (eqb (g.extension_ranges r) 0)))
 
-needed_required : (g : Schema) (c : Carried) → carries c ≡ true → passes_without g c ≡ false → (is_required c ≡ true) × (eqb g.syntax 3 ≡ false)
-needed_required g Nothing t p = clash false t refl
-needed_required g (Required n) t p = (refl, p)
-needed_required g (Optional n) t p = clash true refl p
-needed_required g (Repeated n) t p = clash true refl p
-needed_required g (Map n) t p = clash true refl p
+needed_required : (g : Schema) (c : Carried) → passes_without g (Some c) ≡ false → (is_required c ≡ true) × (eqb g.syntax 3 ≡ false)
+needed_required g (Required n) p = (refl, p)
+needed_required g (Optional n) p = clash true refl p
+needed_required g (Repeated n) p = clash true refl p
+needed_required g (Map n) p = clash true refl p
 
 module _ (file : File) (m : ℕ) (name : List ℕ) where
-  place_needed : (place : Found) → field_by_name (says file) (message_row file.links m) name ≡ place → carries (carried_at file m place) ≡ true
+  place_needed : (place : Option ℕ) → field_by_name (says file) (message_row file.links m) name ≡ place → is_some (carried_at file m place) ≡ true
       → passes_without (says file) (carried_at file m place) ≡ false → own_cause (says file) (message_row file.links m) ≡ true
-  place_needed found.Nothing e t p = clash false t refl
-  place_needed (found.At j) e t p =
+  place_needed None e t p = clash false t refl
+  place_needed (Some j) e t p =
       let r = message_row file.links m in
-      let n = needed_required (says file) (carried_at file m (found.At j)) t p in
-      required_is-cause (says file) r j (found_below_lem (says file) r name j e) (sym (field-required file m j) ∙ n.0) n.1
+      let n = needed_required (says file) _ p in
+      required_is-cause (says file) r j (found_below_lem (says file) r name j e) (sym (field-required (field_in file m j).label _ _) ∙ n.0) n.1
 
-  pub needed_is_cause : carries (carried_under file m name) ≡ true → passes_without (says file) (carried_under file m name) ≡ false
+  pub needed_is_cause : is_some (carried_under file m name) ≡ true → passes_without (says file) (carried_under file m name) ≡ false
       → own_cause (says file) (message_row file.links m) ≡ true
   unfolding carried_under
   needed_is_cause t p =

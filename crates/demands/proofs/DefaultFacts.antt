@@ -3,7 +3,7 @@
 use mathlib.Core.Path.{◌≡◌, refl, subst}
 use mathlib.Core.Bool.{true, ◌&&◌}
 use mathlib.Core.List.{List}
-use mathlib.Core.Option.{Option, none, some}
+use Rattle.std.specs.Prelude.{Option, Some, None, Ok, Err}
 use Prim.Native.Nat.{ℕ, ◌+◌, ◌-◌, ◌<◌, ◌≤◌, ◌^◌}
 use native.Mathlib.Nat.{mod-le}
 use native.Mathlib.Omega.{arith}
@@ -17,13 +17,10 @@ use Rattle.lists.proofs.ListLaws.{length_part}
 use Rattle.lists.proofs.TableLaws.{get_or_table}
 use Rattle.names.specs.Types.{type_number, type_of, runtime_type}
 use Rattle.names.specs.Integer.{unsigned, signed, as_integer}
-use Rattle.names.specs.Default.{integer_default, true_text, false_text, bool_default, default_of}
+use Rattle.names.specs.Default.{DefaultRead, integer_default, true_text, false_text, bool_default, default_of}
 use Rattle.names.specs.declared.runtime_type_box.FieldType.{FieldType}
 use Rattle.names.specs.declared.runtime_type_box.FieldType.TheVariants as type
-use Rattle.names.specs.declared.runtime_type_box.TypeRead.{TypeRead}
-use Rattle.names.specs.declared.runtime_type_box.TypeRead.TheVariants.{Known, Unknown}
-use Rattle.names.specs.declared.runtime_type_box.DefaultRead.{DefaultRead}
-use Rattle.names.specs.declared.runtime_type_box.DefaultRead.TheVariants.{Integer, Text, ValueName, Unreadable, Unsupported}
+use Rattle.names.specs.declared.runtime_type_box.ReadDefault.TheVariants.{Integer, Text, ValueName}
 use Rattle.names.specs.declared.runtime_type_box.Words.{Words}
 use Rattle.names.proofs.TypeLaws.{number_of_type}
 use Rattle.image.specs.Words.{word_at, sections_of, row_at}
@@ -35,17 +32,16 @@ use Rattle.link.specs.Field.{read_as, default_read}
 
 -- of a field whose type has that number, and whose default ends at byte `end` of the pool
 abbrev ReadOf : ℕ → ℕ → DefaultRead → Type 0
-ReadOf «type» end (Text w) = w.low + w.high ≤ end
-ReadOf «type» end ValueName = «type» ≡ 14
-ReadOf «type» end (Integer w) = Unit
-ReadOf «type» end Unreadable = Unit
-ReadOf «type» end Unsupported = Unit
+ReadOf «type» end (Ok (Text w)) = w.low + w.high ≤ end
+ReadOf «type» end (Ok ValueName) = «type» ≡ 14
+ReadOf «type» end (Ok (Integer w)) = Unit
+ReadOf «type» end (Err r) = Unit
 
 module _ («type» end : ℕ) where
   integer_of : (z : Option ℤ) → ReadOf «type» end (integer_default z)
   unfolding integer_default
-  integer_of none = tt
-  integer_of (some z) = tt
+  integer_of None = tt
+  integer_of (Some z) = tt
 
   bool_of : (text : List ℕ) → ReadOf «type» end (bool_default text)
   unfolding bool_default
@@ -76,9 +72,9 @@ module _ (text : List ℕ) (start : ℕ) where
   known_of type.Sint32 = integer_of 17 end (signed (2 ^ 31) text)
   known_of type.Sint64 = integer_of 18 end (signed (2 ^ 63) text)
 
-  type_of_lem : (n : ℕ) (t : TypeRead) → type_of n ≡ t → ReadOf n end (read_as t text start)
-  type_of_lem n (Known t) e = rw (number_of_type n t e) (known_of t)
-  type_of_lem n Unknown e = tt
+  type_of_lem : (n : ℕ) (t : Option FieldType) → type_of n ≡ t → ReadOf n end (read_as t text start)
+  type_of_lem n (Some t) e = rw (number_of_type n t e) (known_of t)
+  type_of_lem n None e = tt
 
 module _ (f : FieldSays) where
   read_of : ReadOf f.«type» (f.default_start + length f.default) (default_read f)
@@ -86,11 +82,11 @@ module _ (f : FieldSays) where
   read_of = type_of_lem f.default f.default_start f.«type» (type_of f.«type») refl
 
   -- a text lies in the default's own bytes
-  pub text_inside : (w : Words) → default_read f ≡ Text w → w.low + w.high ≤ f.default_start + length f.default
+  pub text_inside : (w : Words) → default_read f ≡ Ok (Text w) → w.low + w.high ≤ f.default_start + length f.default
   text_inside w e = subst (ReadOf f.«type» (f.default_start + length f.default)) e read_of
 
   -- the name of a value is that of an enum's
-  pub name_of_enum : default_read f ≡ ValueName → f.«type» ≡ 14
+  pub name_of_enum : default_read f ≡ Ok ValueName → f.«type» ≡ 14
   name_of_enum e = subst (ReadOf f.«type» (f.default_start + length f.default)) e read_of
 
 -- ---- where its text lies

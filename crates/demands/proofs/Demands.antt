@@ -6,6 +6,7 @@ use Prim.Native.Nat.{ℕ, ◌+◌, ◌≤◌, ◌<◌}
 use native.Mathlib.Omega.{arith}
 use lib.ListN.{length}
 use borrow.Author.Tests.{leb-true}
+use Rattle.std.specs.Prelude.{Ok, Err}
 use Rattle.lists.specs.Below.{any_below}
 use Rattle.lists.specs.Lists.{same}
 use Rattle.lists.specs.Splice.{splice}
@@ -17,67 +18,59 @@ use Rattle.image.specs.Schema.{Schema}
 use Rattle.image.specs.Links.{links_of}
 use Rattle.image.specs.FullName.{items, full_name, shares_name}
 use Rattle.image.specs.Shelf.{used_with}
-use Rattle.image.specs.Verdict.{first}
+use Rattle.image.specs.Verdict.{Verdict, first}
 use Rattle.image.specs.Judge.{naming_lines}
 use Rattle.image.specs.declared.shelf.Used.{Used}
-use Rattle.image.specs.declared.verdict.Refusal.{Refusal}
-use Rattle.image.specs.declared.verdict.Verdict.{Verdict}
-use Rattle.image.specs.declared.verdict.Verdict.TheVariants.{Passed, Stopped}
+use Rattle.image.specs.declared.verdict.Refused.{Refused}
 use Rattle.link.specs.Refusals.{Call, said, new_file, new_record, table}
 use Rattle.link.specs.Link.{answer_used, Outcome, outcome, linked}
-use Rattle.link.specs.declared.link.Linked.{Linked}
-use Rattle.link.specs.declared.link.Linked.TheVariants.{Accepted, Refused}
 use Rattle.link.proofs.TableLaws.{naming_group, all_passed, room_pass, none_given, given_none, first_given, given_first}
 use Rattle.demands.specs.Demands.{used_after, RefusedExactlyIf, AcceptedExactlyIf, RefusalLeaves, Written, AcceptanceAppends, OneOutcome, NamesDiffer}
 
 -- ---- the outcome, by the table's verdict
-
--- an answer is not both
-answers_differ : {C : Type 0} (a : Linked) {u : Used} {r : Refusal} {p : ℕ} → a ≡ Accepted u → a ≡ Refused r p → C
-answers_differ a e f = let z : ◌≡◌ {A = ℕ} 0 1 = cc in absurd (omega arith)
 
 module _ (c : Call) where
   pub linked_is : linked c ≡ outcome c (first (table c))
   unfolding linked
   linked_is = refl
 
-  refused_by : (v : Verdict) {r : Refusal} {p : ℕ} → (outcome c v).answer ≡ Refused r p → v ≡ Stopped r p
+  refused_by : (v : Verdict) {r : Refused} → (outcome c v).answer ≡ Err r → v ≡ Err r
   unfolding outcome
-  refused_by Passed {r} {p} h = answers_differ (Accepted (used_with c.used (new_file c))) refl h
-  refused_by (Stopped r' p') {r} {p} h = cc
+  refused_by (Ok t) h = cc
+  refused_by (Err r) h = cc
 
-  accepted_by : (v : Verdict) {u : Used} → (outcome c v).answer ≡ Accepted u → (v ≡ Passed) × (u ≡ used_with c.used (new_file c))
+  accepted_by : (v : Verdict) {u : Used} → (outcome c v).answer ≡ Ok u → (v ≡ Ok tt) × (u ≡ used_with c.used (new_file c))
   unfolding outcome
-  accepted_by Passed {u} h = (refl, cc)
-  accepted_by (Stopped r p) {u} h = answers_differ (Refused r p) h refl
+  accepted_by (Ok t) h = (refl, cc)
+  accepted_by (Err r) h = cc
 
   -- the answer says what the verdict was
-  pub refused_verdict : {r : Refusal} {p : ℕ} → (linked c).answer ≡ Refused r p → first (table c) ≡ Stopped r p
-  refused_verdict {r} {p} h = refused_by (first (table c)) (ap (λ (o : Outcome). o.answer) (sym linked_is) ∙ h)
+  pub refused_verdict : {r : Refused} → (linked c).answer ≡ Err r → first (table c) ≡ Err r
+  refused_verdict h = refused_by (first (table c)) (ap (λ (o : Outcome). o.answer) (sym linked_is) ∙ h)
 
-  pub accepted_verdict : {u : Used} → (linked c).answer ≡ Accepted u → (first (table c) ≡ Passed) × (u ≡ used_with c.used (new_file c))
-  accepted_verdict {u} h = accepted_by (first (table c)) (ap (λ (o : Outcome). o.answer) (sym linked_is) ∙ h)
+  pub accepted_verdict : {u : Used} → (linked c).answer ≡ Ok u → (first (table c) ≡ Ok tt) × (u ≡ used_with c.used (new_file c))
+  accepted_verdict h = accepted_by (first (table c)) (ap (λ (o : Outcome). o.answer) (sym linked_is) ∙ h)
 
   -- and the verdict what the outcome is
-  pub linked_stopped : {r : Refusal} {p : ℕ} → first (table c) ≡ Stopped r p → linked c ≡ record { answer = Refused r p; words = c.words; bytes = c.bytes }
+  pub linked_stopped : {r : Refused} → first (table c) ≡ Err r → linked c ≡ record { answer = Err r; words = c.words; bytes = c.bytes }
   unfolding outcome
-  linked_stopped {r} {p} h = linked_is ∙ rw h
+  linked_stopped h = linked_is ∙ rw h
 
-  pub linked_passed : first (table c) ≡ Passed
-      → linked c ≡ record { answer = Accepted (used_with c.used (new_file c)); words = splice c.words c.used.words (new_record c); bytes = splice c.bytes c.used.bytes c.pool }
+  pub linked_passed : first (table c) ≡ Ok tt
+      → linked c ≡ record { answer = Ok (used_with c.used (new_file c)); words = splice c.words c.used.words (new_record c); bytes = splice c.bytes c.used.bytes c.pool }
   unfolding outcome
   linked_passed h = linked_is ∙ rw h
 
 -- ---- a refusal leaves all as it was
 
 pub refusal_leaves : (c : Call) → RefusalLeaves c
-refusal_leaves c r p h =
+refusal_leaves c r h =
     let o = linked_stopped c (refused_verdict c h) in
     record { words = ap (λ (x : Outcome). x.words) o; bytes = ap (λ (x : Outcome). x.bytes) o; numbers = ap (answer_used c.used) h }
 
 -- ---- an acceptance changes only the room just behind what was used
 
-module _ (c : Call) (u : Used) (h : (linked c).answer ≡ Accepted u) where
+module _ (c : Call) (u : Used) (h : (linked c).answer ≡ Ok u) where
   -- the three numbers, the words and the bytes, as the verdict gives them
   pub accepted_outcome : (u ≡ used_with c.used (new_file c))
       × ((linked c).words ≡ splice c.words c.used.words (new_record c))
@@ -120,9 +113,9 @@ acceptance_appends c u h =
 -- ---- exactly if
 
 pub refused_exactly_if : (c : Call) → RefusedExactlyIf c
-refused_exactly_if c r p = (
-  (λ h. first_given (table c) r p (refused_verdict c h)),
-  (λ g. ap (λ (x : Outcome). x.answer) (linked_stopped c (given_first (table c) r p g))),
+refused_exactly_if c r = (
+  (λ h. first_given (table c) r.refusal r.place (refused_verdict c h)),
+  (λ g. ap (λ (x : Outcome). x.answer) (linked_stopped c (given_first (table c) r.refusal r.place g))),
 )
 
 pub accepted_exactly_if : (c : Call) → AcceptedExactlyIf c

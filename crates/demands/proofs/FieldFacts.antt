@@ -1,13 +1,13 @@
 -- All fields of a file that draws no refusal: their link rows meet the tests of rule 2, and no field clashes. Assumes nothing.
 use mathlib.Core.Path.{◌≡◌, refl, sym, ap, subst, ◌∙◌}
-use mathlib.Core.Bool.{Bool, true, false}
+use mathlib.Core.Bool.{Bool, true, false, not}
 use mathlib.Core.List.{List, [], ◌∷◌, ◌++◌, append_assoc}
 use Prim.Native.Nat.{ℕ, zero, suc, ◌+◌, ◌*◌, ◌-◌, ◌<◌, ◌≤◌}
 use native.Mathlib.Nat.{zero-add, add-zero}
 use native.Mathlib.Omega.{arith}
 use lib.ListN.{length, get_or, get_or-append}
 use lib.Seq.{get_or-append-add}
-use borrow.Author.Tests.{not-false}
+use Rattle.std.specs.Prelude.{Ok, is_none}
 use Rattle.lists.specs.Lists.{span, concat_map, table}
 use Rattle.lists.proofs.Cases.{order}
 use Rattle.lists.proofs.BelowLaws.{all_below_intro}
@@ -20,10 +20,9 @@ use Rattle.image.specs.Links.{link_words}
 use Rattle.image.specs.Clash.{first_clash}
 use Rattle.image.specs.Record.{link_row, field_link_at, field_link_of, repeated, containers_in, containers}
 use Rattle.image.specs.LinkTests.{field_link_fits, field_links_fit}
-use Rattle.image.specs.Shelf.{is_nothing, clash_free}
+use Rattle.image.specs.Shelf.{clash_free}
 use Rattle.image.specs.Verdict.{Line, first, in_order}
 use Rattle.image.specs.declared.rows.Range.{Range}
-use Rattle.image.specs.declared.verdict.Verdict.TheVariants.{Passed}
 use Rattle.image.proofs.Numbers.{flat_length, row_in, flat_in, row_of_flat}
 use Rattle.image.proofs.Owned.{fields_each, fields_length}
 use Rattle.image.proofs.LinkLaws.{run}
@@ -119,7 +118,7 @@ module _ (s : Sight) (list : List ℕ) (fine : ℕ → Type 0) where
 
 -- ---- a file whose fields draw no refusal
 
-module _ (s : Sight) (list : List ℕ) (ok : Sound (own_says s)) (passed : first (all_field_lines s list) ≡ Passed) where
+module _ (s : Sight) (list : List ℕ) (ok : Sound (own_says s)) (passed : first (all_field_lines s list) ≡ Ok tt) where
   module _ (m : ℕ) (h : m < (own_says s).messages) where
     abbrev regular_lines : List Line
     regular_lines = range_lines s list false ((own_says s).fields_in (row_of (own_says s) m)) (first_field (own_says s) m)
@@ -131,23 +130,23 @@ module _ (s : Sight) (list : List ℕ) (ok : Sound (own_says s)) (passed : first
     extension_lines =
         range_lines s list false ((own_says s).extensions_in (row_of (own_says s) m)) (first_field (own_says s) m + ((own_says s).fields_in (row_of (own_says s) m)).count)
 
-    message_passed : first (message_lines s list m) ≡ Passed
+    message_passed : first (message_lines s list m) ≡ Ok tt
     unfolding all_field_lines
     message_passed = order_passed (own_says s).messages (message_lines s list) (both_passed (in_order (own_says s).messages (message_lines s list)) _ passed).0 m h
 
-    regular_passed : first regular_lines ≡ Passed
+    regular_passed : first regular_lines ≡ Ok tt
     unfolding message_lines
     regular_passed = (both_passed regular_lines (clash_lines ++ extension_lines) message_passed).0
 
-    clash_passed : first clash_lines ≡ Passed
+    clash_passed : first clash_lines ≡ Ok tt
     unfolding message_lines
     clash_passed = (both_passed clash_lines extension_lines (both_passed regular_lines (clash_lines ++ extension_lines) message_passed).1).0
 
-    extensions_passed : first extension_lines ≡ Passed
+    extensions_passed : first extension_lines ≡ Ok tt
     unfolding message_lines
     extensions_passed = (both_passed clash_lines extension_lines (both_passed regular_lines (clash_lines ++ extension_lines) message_passed).1).1
 
-  file_passed : first (range_lines s list true (own_says s).file_extensions (first_field (own_says s) (own_says s).messages)) ≡ Passed
+  file_passed : first (range_lines s list true (own_says s).file_extensions (first_field (own_says s) (own_says s).messages)) ≡ Ok tt
   unfolding all_field_lines
   file_passed = (both_passed (in_order (own_says s).messages (message_lines s list)) _ passed).1
 
@@ -156,10 +155,10 @@ module _ (s : Sight) (list : List ℕ) (ok : Sound (own_says s)) (passed : first
   unfolding clash_free clash_at
   clash_free_lem =
       let g = own_says s in
-      all_below_intro g.messages (λ r. is_nothing (first_clash g r))
+      all_below_intro g.messages (λ r. is_none (first_clash g r))
       (λ r l. let m = flat_of g r in
       let lines = none_given (clash_at g (row_of g m) (first_field g m)) (clash_passed m (flat_in g ok r l)) in
-      ap (λ (x : ℕ). is_nothing (first_clash g x)) (sym (row_of_flat g ok r l)) ∙ not-false (is_nothing (first_clash g (row_of g m))) lines.0)
+      ap (λ (x : ℕ). is_none (first_clash g x)) (sym (row_of_flat g ok r l)) ∙ ap not lines.0)
 
   -- the link row of every field
   module _ (inside : (r : ℕ) → r < (own_says s).fields → ((own_says s).field r).default_start + length ((own_says s).field r).default ≤ length s.own.pool)
@@ -171,7 +170,7 @@ module _ (s : Sight) (list : List ℕ) (ok : Sound (own_says s)) (passed : first
       abbrev Fine : ℕ → Type 0
       Fine r = (h : ℕ) → fits r h (link_of s list h r) ≡ true
 
-      range_fine : (x : Range) (ofFile : Bool) (at : ℕ) → x.first + x.count ≤ (own_says s).fields → first (range_lines s list ofFile x at) ≡ Passed
+      range_fine : (x : Range) (ofFile : Bool) (at : ℕ) → x.first + x.count ≤ (own_says s).fields → first (range_lines s list ofFile x at) ≡ Ok tt
           → (j : ℕ) → j < x.count → Fine (x.first + j)
       range_fine x ofFile at low p j l h =
           field_fits_lem s list (all_links s list) ((own_says s).field (x.first + j)) (x.first + j) h (length s.own.pool) ofFile (at + j)

@@ -6,9 +6,11 @@ use mathlib.Core.Bool.{Bool, true, false}
 use mathlib.Core.List.{List}
 use Prim.Native.Nat.{ℕ, ◌+◌, ◌<◌}
 use native.Mathlib.Omega.{arith}
-use lib.Dec.{eqb, ltb}
+use lib.Dec.{eqb}
 use lib.ListN.{take}
-use borrow.Author.Tests.{lt-ltb, le-ltb, eq-eqb, eqb-true}
+use borrow.Author.Tests.{lt-ltb, eq-eqb, eqb-true}
+use Rattle.std.specs.Prelude.{Option, Some, None, is_none, Ok}
+use Rattle.lists.specs.Below.{first_below}
 use Rattle.lists.specs.Lists.{same}
 use Rattle.lists.proofs.Cases.{by, clash, each}
 use Rattle.lists.proofs.BelowLaws.{all_below_elim, any_below_false, first_is, searched}
@@ -19,19 +21,16 @@ use Rattle.image.specs.Members.{regular}
 use Rattle.image.specs.Clash as rule
 use Rattle.image.specs.Clash.{json_name_of, is_called, clashes_earlier, first_regular, first_clash, field_by_number, field_by_name, field_by_name_or_json}
 use Rattle.image.specs.Record.{File, says}
-use Rattle.image.specs.Shelf.{is_nothing, clash_free, image_tests, image_obeys, file_fits}
-use Rattle.image.specs.declared.rows.Found.{Found}
-use Rattle.image.specs.declared.rows.Found.TheVariants.{At, Nothing}
+use Rattle.image.specs.Shelf.{clash_free, image_tests, image_obeys, file_fits}
 use Rattle.image.proofs.FieldLaws.{clash-number, clash_name, clash_json}
 use Rattle.image.proofs.Numbers.{row_in}
 use Rattle.image.proofs.Owned.{fields_next, fields_mono, fields_end_lem}
 use Rattle.link.specs.Refusals.{Call, shelved_files}
 use Rattle.link.specs.Lookup.{flat_field, in_message, field_numbered, usual_mode, field_named, shelved_file, looked_up}
-use Rattle.link.specs.declared.lookup.Looked.TheVariants as looked
 use Rattle.link.proofs.ShelfFacts.{fit_obeys, fit_sound}
 use Rattle.link.proofs.GivenLaws.{fit_row, fit_first}
 use Rattle.demands.specs.Demands.{GoesOn}
-use Rattle.demands.proofs.LookupTheorems.{none_not, found_exactly_if, on_fits}
+use Rattle.demands.proofs.LookupTheorems.{none_not, found_told, found_exactly_if, on_fits}
 
 -- ---- a test that no two fields of a message meet without a clash
 
@@ -63,7 +62,7 @@ called_tells text f e p q =
 
 -- ---- the first field with p, in a message row where none clashes with an earlier one
 
-module _ (g : Schema) (r : ℕ) (free : is_nothing (first_clash g r) ≡ true) where
+module _ (g : Schema) (r : ℕ) (free : is_none (first_clash g r) ≡ true) where
   abbrev count : ℕ
   count = (g.fields_in r).count
 
@@ -71,7 +70,7 @@ module _ (g : Schema) (r : ℕ) (free : is_nothing (first_clash g r) ≡ true) w
   unfolding first_clash
   none_clashes j l =
       searched count (clashes_earlier g r) count
-      (λ s e. clash (is_nothing (first_clash g r)) free (rw (e, lt-ltb s.at count s.below)))
+      (λ s e. clash (is_none (first_clash g r)) free (rw (e, lt-ltb s.at count s.below)))
       (λ none e. none j l)
 
   apart : (i j : ℕ) → i < j → j < count → rule.clash (regular g r j) (regular g r i) ≡ false
@@ -82,13 +81,10 @@ module _ (g : Schema) (r : ℕ) (free : is_nothing (first_clash g r) ≡ true) w
     abbrev has : ℕ → Bool
     has i = p (regular g r i)
 
-    only_one : (first_regular g r has ≡ At j) ↔ (has j ≡ true)
+    only_one : (first_regular g r has ≡ Some j) ↔ (has j ≡ true)
     only_one = (
-      (λ h. searched count has count
-          (λ s e. let q : At s.at ≡ At j = sym (rw (e, lt-ltb s.at count s.below)) ∙ h in
-          let z : s.at ≡ j = cc in
-          rw z at s.has)
-          (λ none e. none_not j (sym (rw (e, le-ltb count count (omega arith))) ∙ h))),
+      (λ h. let f = found_told count (first_below count has count) j h in
+          searched count has count (λ s e. rw (sym e ∙ f.0) at s.has) (λ none e. absurd (omega (arith, e, f.0, f.1)))),
       (λ h. rw (
         first_is count has count j l h
             (λ i k. by (has i) (λ t. clash (rule.clash (regular g r j) (regular g r i)) (tells (regular g r j) (regular g r i) h t) (apart i j k l)) (λ t. t)),
@@ -108,31 +104,28 @@ module _ (earlier : List File) (x : File) (fits : file_fits earlier x ≡ true) 
       let ok = fit_sound earlier x fits in
       omega (arith, fields_next (says x) ok m h, fields_mono (says x) ok (m + 1) (says x).messages (omega arith), fields_end_lem (says x) ok)
 
-  in_message_lem : (seek : ℕ → Found) → in_message x m seek ≡ flat_field (says x).fields (first_field (says x) m) (seek home)
+  in_message_lem : (seek : ℕ → Option ℕ) → in_message x m seek ≡ flat_field (says x).fields (first_field (says x) m) (seek home)
   in_message_lem seek = rw (lt-ltb m (says x).messages h, fit_row earlier x fits m h, fit_first earlier x fits m h)
 
-  flat_of_lem : (found : Found) (j : ℕ) → flat_field (says x).fields (first_field (says x) m) found ≡ At (first_field (says x) m + j) → found ≡ At j
-  flat_of_lem Nothing j e = none_not (first_field (says x) m + j) e
-  flat_of_lem (At k) j e =
+  flat_of_lem : (found : Option ℕ) (j : ℕ) → flat_field (says x).fields (first_field (says x) m) found ≡ Some (first_field (says x) m + j) → found ≡ Some j
+  flat_of_lem None j e = none_not (first_field (says x) m + j) e
+  flat_of_lem (Some k) j e =
       let a = first_field (says x) m in
-      by (ltb (a + k) (says x).fields)
-      (λ t. let q : At (a + k) ≡ At (a + j) = sym (rw t) ∙ e in
-      let z : a + k ≡ a + j = cc in
-      let y : k ≡ j = omega arith in
-      ap At y)
-      (λ t. none_not (a + j) (sym (rw t) ∙ e))
+      let z = (found_told (says x).fields (a + k) (a + j) e).0 in
+      let y : k ≡ j = omega (arith, z) in
+      ap Some y
 
-  flat_exactly : (seek : ℕ → Found) (j : ℕ) → j < ((says x).fields_in home).count → (in_message x m seek ≡ At (first_field (says x) m + j)) ↔ (seek home ≡ At j)
+  flat_exactly : (seek : ℕ → Option ℕ) (j : ℕ) → j < ((says x).fields_in home).count → (in_message x m seek ≡ Some (first_field (says x) m + j)) ↔ (seek home ≡ Some j)
   flat_exactly seek j l = (
     (λ e. flat_of_lem (seek home) j (sym (in_message_lem seek) ∙ e)),
     (λ e. in_message_lem seek ∙ rw (e, lt-ltb (first_field (says x) m + j) (says x).fields (place_below j l))),
   )
 
   -- no field of it clashes with an earlier one
-  home_free : is_nothing (first_clash (says x) home) ≡ true
+  home_free : is_none (first_clash (says x) home) ≡ true
   unfolding image_obeys clash_free
   home_free =
-      all_below_elim (says x).messages (λ r. is_nothing (first_clash (says x) r))
+      all_below_elim (says x).messages (λ r. is_none (first_clash (says x) r))
       (each (image_tests x.image x.pool) (fit_obeys earlier x fits)).1.1.1.1.1.0
       home (row_in (says x) (fit_sound earlier x fits) m h)
 
@@ -149,8 +142,8 @@ module _ (c : Call) (f : ℕ) (on : GoesOn c f) (m : ℕ) (h : m < (says (shelve
   abbrev number : ℕ → ℕ
   number j = first_field g m + j
 
-  field_found_if : (p : FieldSays → Bool) → Telling p → (seek : File → Found) → seek (shelved_file c f) ≡ in_message (shelved_file c f) m (λ r. first_regular g r (λ i. p (regular g r i)))
-      → (j : ℕ) → j < (g.fields_in (row_of g m)).count → (looked_up c f seek ≡ looked.Found (number j)) ↔ (p (field j) ≡ true)
+  field_found_if : (p : FieldSays → Bool) → Telling p → (seek : File → Option ℕ) → seek (shelved_file c f) ≡ in_message (shelved_file c f) m (λ r. first_regular g r (λ i. p (regular g r i)))
+      → (j : ℕ) → j < (g.fields_in (row_of g m)).count → (looked_up c f seek ≡ Ok (Some (number j))) ↔ (p (field j) ≡ true)
   field_found_if p tells seek e j l =
       let fits = on_fits c f on in
       let before = take f (shelved_files c) in
@@ -162,21 +155,21 @@ module _ (c : Call) (f : ℕ) (on : GoesOn c f) (m : ℕ) (h : m < (says (shelve
 
   module _ (j : ℕ) (l : j < (g.fields_in (row_of g m)).count) where
     -- By number it is found exactly by its own.
-    pub number_exactly_if : (n : ℕ) → (looked_up c f (λ x. field_numbered x m n) ≡ looked.Found (number j)) ↔ ((field j).number ≡ n)
+    pub number_exactly_if : (n : ℕ) → (looked_up c f (λ x. field_numbered x m n) ≡ Ok (Some (number j))) ↔ ((field j).number ≡ n)
     unfolding field_numbered field_by_number
     number_exactly_if n =
         let t = field_found_if (λ x. eqb x.number n) (number_tells n) (λ x. field_numbered x m n) refl j l in
         ((λ q. eqb-true (field j).number n (t.0 q)), (λ q. t.1 (eq-eqb (field j).number n q)))
 
     -- In mode 1 by its own name.
-    pub own_name_exactly_if : (name : List ℕ) → (looked_up c f (λ x. field_named x m 1 name) ≡ looked.Found (number j)) ↔ ((field j).name ≡ name)
+    pub own_name_exactly_if : (name : List ℕ) → (looked_up c f (λ x. field_named x m 1 name) ≡ Ok (Some (number j))) ↔ ((field j).name ≡ name)
     unfolding field_named field_by_name
     own_name_exactly_if name =
         let t = field_found_if (λ x. same x.name name) (name_tells name) (λ x. field_named x m 1 name) refl j l in
         ((λ q. same_is (field j).name name (t.0 q)), (λ q. t.1 (rw q (same_refl name))))
 
     -- In mode 2 by its own name or its JSON name.
-    pub name_exactly_if : (name : List ℕ) → (looked_up c f (λ x. field_named x m 2 name) ≡ looked.Found (number j)) ↔ (is_called (field j) name ≡ true)
+    pub name_exactly_if : (name : List ℕ) → (looked_up c f (λ x. field_named x m 2 name) ≡ Ok (Some (number j))) ↔ (is_called (field j) name ≡ true)
     unfolding field_named field_by_name_or_json
     name_exactly_if name = field_found_if (λ x. is_called x name) (called_tells name) (λ x. field_named x m 2 name) refl j l
 

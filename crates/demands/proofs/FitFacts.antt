@@ -9,30 +9,26 @@ use native.Mathlib.Omega.{arith}
 use lib.Dec.{eqb, ltb, leb}
 use lib.ListN.{length, get_or}
 use borrow.Author.Tests.{eq-eqb, ltb-true, lt-ltb, le-leb}
+use Rattle.std.specs.Prelude.{Option, Some, None, is_none, unwrap_or, Ok, Err}
+use Rattle.lists.specs.Below.{found_below}
 use Rattle.lists.proofs.Cases.{by, either, clash, all_of_lem, and-true}
-use Rattle.lists.proofs.SpliceLaws.{listed_all}
-use Rattle.names.specs.declared.runtime_type_box.DefaultRead.{DefaultRead}
-use Rattle.names.specs.declared.runtime_type_box.DefaultRead.TheVariants.{Integer, Text, ValueName, Unreadable, Unsupported}
+use Rattle.names.specs.Default.{DefaultRead}
+use Rattle.names.specs.declared.runtime_type_box.ReadDefault.TheVariants.{Integer, Text, ValueName}
 use Rattle.image.specs.Schema.{FieldSays}
 use Rattle.image.specs.Links.{enum_row}
 use Rattle.image.specs.Record.{File, no_file, says, FieldLink, field_link_of, value_count}
 use Rattle.image.specs.LinkTests.{file_by, enum_exists, target_fits, extendee_fits, value_fits, enum_default_fits, default_fits, field_link_tests, field_link_fits}
-use Rattle.image.specs.Clash.{found_below}
-use Rattle.image.specs.Shelf.{is_nothing}
 use Rattle.image.specs.Verdict.{first}
-use Rattle.image.specs.declared.verdict.Verdict.TheVariants.{Passed}
 use Rattle.link.specs.Sight.{Sight, in_sight, own_says}
-use Rattle.link.specs.Search.{place_or}
 use Rattle.link.specs.Field.{first_value, value_in, has_extendee, extendee_target, extendee_lines, extendee_part, element_lines, field_target, is_repeated, is_map, map_key, map_value, map_lines, map_part, type_lines, type_part, is_given, default_read, default_record, named_default, default_lines, default_part, field_lines, field_words}
 use Rattle.link.specs.Lookup.{count_of}
-use Rattle.link.specs.Resolve.{target_file, target_index, is_missing, is_message_type, target, type_target}
+use Rattle.link.specs.Resolve.{target_file, target_index, is_message_type, target, type_target}
 use Rattle.link.specs.declared.building.Wanted.{Wanted}
 use Rattle.link.specs.declared.building.Wanted.TheVariants.{Message, Enum}
 use Rattle.link.specs.declared.building.Target.{Target}
-use Rattle.link.specs.declared.building.Target.TheVariants.{At, Missing}
 use Rattle.link.proofs.TableLaws.{none_given}
 use Rattle.link.proofs.PhaseLaws.{both_passed}
-use Rattle.link.proofs.FileIndexLaws.{default-length, extendee-length, field_words_lem}
+use Rattle.link.proofs.FileIndexLaws.{field_words_of}
 use Rattle.demands.proofs.DefaultFacts.{text_inside, name_of_enum}
 use Rattle.demands.proofs.TargetFacts.{Existing, Fitting, target_existing, type_fitting}
 
@@ -91,28 +87,28 @@ module _ (s : Sight) (links : List ℕ) where
 -- ---- targets
 
 -- one that is not missing exists
-not_missing : (wanted : Wanted) (files : List File) (t : Target) → is_missing t ≡ false → Existing wanted files t
+not_missing : (wanted : Wanted) (files : List File) (t : Option Target) → is_none t ≡ false → Existing wanted files t
     → ltb (target_index t) (count_of wanted (says (file_by files (target_file t)))) ≡ true
-not_missing wanted files (At word index) h e = e
-not_missing wanted files Missing h e = clash true refl h
+not_missing wanted files (Some t) h e = e
+not_missing wanted files None h e = clash true refl h
 
 -- that of a type fits it, unless the type needs one and it is missing
-fits_unless : (files : List File) («type» : ℕ) (t : Target) → (is_message_type «type» && is_missing t) ≡ false → (eqb «type» 14 && is_missing t) ≡ false
+fits_unless : (files : List File) («type» : ℕ) (t : Option Target) → (is_message_type «type» && is_none t) ≡ false → (eqb «type» 14 && is_none t) ≡ false
     → Fitting files «type» t → target_fits files «type» (target_file t) (target_index t) ≡ true
 unfolding target_fits
-fits_unless files «type» (At word index) m e h = h
-fits_unless files «type» Missing m e h = rw (rw (and-true (is_message_type «type»)) at m, rw (and-true (eqb «type» 14)) at e)
+fits_unless files «type» (Some t) m e h = h
+fits_unless files «type» None m e h = rw (rw (and-true (is_message_type «type»)) at m, rw (and-true (eqb «type» 14)) at e)
 
 -- the place of a value that was found is one of the enum's
-found_place : (n k : ℕ) → is_nothing (found_below n k) ≡ false → place_or 0 (found_below n k) < n
+found_place : (n k : ℕ) → is_none (found_below n k) ≡ false → unwrap_or (found_below n k) 0 < n
 found_place n k h = by (ltb k n) (λ t. rw t (ltb-true k n t)) (λ t. clash true refl (rw t at h))
 
-place_below : (file : File) (e : ℕ) (text : List ℕ) → is_nothing (value_in file e text) ≡ false → place_or 0 (value_in file e text) < value_count file e
+place_below : (file : File) (e : ℕ) (text : List ℕ) → is_none (value_in file e text) ≡ false → unwrap_or (value_in file e text) 0 < value_count file e
 unfolding first_value
 place_below file e text h = found_place (value_count file e) _ h
 
 module _ (s : Sight) (list links : List ℕ) where
-  element_fits : (f : FieldSays) (at : ℕ) → first (element_lines s list f at) ≡ Passed
+  element_fits : (f : FieldSays) (at : ℕ) → first (element_lines s list f at) ≡ Ok tt
       → target_fits (shelf_with s links) f.«type» (target_file (field_target s list f)) (target_index (field_target s list f)) ≡ true
   unfolding element_lines
   element_fits f at h =
@@ -155,15 +151,13 @@ module _ (s : Sight) (list links : List ℕ) where
 
     written_is : (row container : ℕ) → written row container ≡ field_link_of (field_words s list f row container)
     written_is row container =
-        ap field_link_of
-        (field_words_lem s list f row container (type_part s list f) refl (sym (listed_all (extendee_part s list f) 2 0 (extendee-length s list f)))
-        refl (sym (listed_all (default_part s list f) 3 0 (default-length s list f))))
+        ap field_link_of (field_words_of s list f row container (default_part s list f) (extendee_part s list f) (type_part s list f) refl refl refl refl)
 
     module _ (row container : ℕ) where
       kind-listed : leb (cond (has_extendee f) 1 0) 1 ≡ true
       kind-listed = by (has_extendee f) (λ t. rw t) (λ t. rw t)
 
-      extendee_fits_lem : (ofFile : Bool) (at : ℕ) → first (extendee_lines s list f ofFile at) ≡ Passed → extendee_fits (shelf_with s links) (written row container) ≡ true
+      extendee_fits_lem : (ofFile : Bool) (at : ℕ) → first (extendee_lines s list f ofFile at) ≡ Ok tt → extendee_fits (shelf_with s links) (written row container) ≡ true
       unfolding extendee_fits extendee_part extendee_lines
       extendee_fits_lem ofFile at h =
           let given = none_given (extendee_lines s list f ofFile at) h in
@@ -174,12 +168,12 @@ module _ (s : Sight) (list links : List ℕ) where
 
       -- ---- shape and types
 
-      module _ (at : ℕ) (h : first (type_lines s list f at) ≡ Passed) where
-        own_passed : first (element_lines s list f at) ≡ Passed
+      module _ (at : ℕ) (h : first (type_lines s list f at) ≡ Ok tt) where
+        own_passed : first (element_lines s list f at) ≡ Ok tt
         unfolding type_lines
         own_passed = (both_passed (element_lines s list f at) (cond (is_map s list f) (map_lines s list (map_key s list f) (map_value s list f) at) []) h).0
 
-        map_passed : is_map s list f ≡ true → (first (element_lines s list (map_key s list f) at) ≡ Passed) × (first (element_lines s list (map_value s list f) at) ≡ Passed)
+        map_passed : is_map s list f ≡ true → (first (element_lines s list (map_key s list f) at) ≡ Ok tt) × (first (element_lines s list (map_value s list f) at) ≡ Ok tt)
         unfolding type_lines map_lines
         map_passed m =
             let behind = (both_passed (element_lines s list f at) (cond (is_map s list f) (map_lines s list (map_key s list f) (map_value s list f) at) []) h).1 in
@@ -202,10 +196,10 @@ module _ (s : Sight) (list links : List ℕ) where
 
       -- ---- default
 
-      module _ (at : ℕ) (h : first (default_lines s list f at) ≡ Passed)
+      module _ (at : ℕ) (h : first (default_lines s list f at) ≡ Ok tt)
           (kept : EnumsKept s links)
         where
-          abbrev named : Target
+          abbrev named : Option Target
           named = target Enum s list f.type_name
 
           name_typed : f.«type» ≡ 14 → type_part s list f ≡ cond (is_repeated f) 1 0 ∷ 14 ∷ target_file named ∷ target_index named ∷ 0 ∷ 0 ∷ 0 ∷ []
@@ -217,12 +211,12 @@ module _ (s : Sight) (list links : List ℕ) where
           default_is g e = rw (g, e)
 
           -- the value that a default names is one of the enum
-          name_fits : is_given f ≡ true → default_read f ≡ ValueName → enum_default_fits (shelf_with s links) (written row container) ≡ true
+          name_fits : is_given f ≡ true → default_read f ≡ Ok ValueName → enum_default_fits (shelf_with s links) (written row container) ≡ true
           unfolding enum_default_fits default_lines
           name_fits g e =
               let given = none_given (default_lines s list f at) h in
-              let found : is_missing named ≡ false = rw (g, e) at given.1.1.0 in
-              let some : is_nothing (named_default s list f) ≡ false = rw (g, e) at given.1.1.1.0 in
+              let found : is_none named ≡ false = rw (g, e) at given.1.1.0 in
+              let some : is_none (named_default s list f) ≡ false = rw (g, e) at given.1.1.1.0 in
               let there = not_missing Enum (in_sight s) named found (target_existing s list f.type_name Enum) in
               rw (default_is g e, name_typed (name_of_enum f e), ← values_kept s links kept (target_file named) (target_index named) there)
               (lt-ltb _ _ (place_below (file_by (in_sight s) (target_file named)) (target_index named) f.default some))
@@ -230,11 +224,10 @@ module _ (s : Sight) (list links : List ℕ) where
           read_fits : (pool : ℕ) → f.default_start + length f.default ≤ pool → is_given f ≡ true → (d : DefaultRead) → default_read f ≡ d
               → default_fits (shelf_with s links) pool (written row container) ≡ true
           unfolding default_fits
-          read_fits pool inside g (Integer w) e = rw (default_is g e)
-          read_fits pool inside g (Text w) e = rw (default_is g e) (le-leb (w.low + w.high) pool (omega (arith, text_inside f w e)))
-          read_fits pool inside g ValueName e = let kind : default_word 0 ≡ 4 = ap (λ (l : List ℕ). get_or l 0 0) (default_is g e) in rw kind (name_fits g e)
-          read_fits pool inside g Unreadable e = rw (default_is g e)
-          read_fits pool inside g Unsupported e = rw (default_is g e)
+          read_fits pool inside g (Ok (Integer w)) e = rw (default_is g e)
+          read_fits pool inside g (Ok (Text w)) e = rw (default_is g e) (le-leb (w.low + w.high) pool (omega (arith, text_inside f w e)))
+          read_fits pool inside g (Ok ValueName) e = let kind : default_word 0 ≡ 4 = ap (λ (l : List ℕ). get_or l 0 0) (default_is g e) in rw kind (name_fits g e)
+          read_fits pool inside g (Err r) e = rw (default_is g e)
 
           default_fits_lem : (pool : ℕ) → f.default_start + length f.default ≤ pool → default_fits (shelf_with s links) pool (written row container) ≡ true
           unfolding default_fits default_part
@@ -242,7 +235,7 @@ module _ (s : Sight) (list links : List ℕ) where
 
       -- ---- all tests
 
-      pub field_fits_lem : (pool : ℕ) (ofFile : Bool) (at : ℕ) → first (field_lines s list f ofFile at) ≡ Passed → f.default_start + length f.default ≤ pool
+      pub field_fits_lem : (pool : ℕ) (ofFile : Bool) (at : ℕ) → first (field_lines s list f ofFile at) ≡ Ok tt → f.default_start + length f.default ≤ pool
           → EnumsKept s links → field_link_fits (shelf_with s links) pool row container (field_link_of (field_words s list f row container)) ≡ true
       unfolding field_link_fits field_lines
       field_fits_lem pool ofFile at h inside kept =

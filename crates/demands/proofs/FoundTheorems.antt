@@ -8,6 +8,7 @@ use native.Mathlib.Omega.{arith}
 use lib.Dec.{leb}
 use lib.ListN.{get_or, length}
 use lib.Seq.{get_or-append-add}
+use Rattle.std.specs.Prelude.{Some, Ok}
 use Rattle.lists.specs.Below.{all_of}
 use Rattle.lists.proofs.Cases.{all_of_lem}
 use Rattle.names.specs.Bytes.{dot}
@@ -15,14 +16,11 @@ use Rattle.image.specs.FullName.{full_name}
 use Rattle.image.specs.Record.{File, no_file}
 use Rattle.image.specs.Shelf.{used_part}
 use Rattle.image.specs.declared.shelf.Used.{Used}
-use Rattle.image.specs.declared.verdict.Verdict.TheVariants.{Passed}
 use Rattle.link.specs.Refusals.{Call, said, shelved_files, new_file, word_limit, byte_limit, length_tests, length_lines, shelf_lines}
 use Rattle.link.specs.Link.{linked}
 use Rattle.link.specs.Lookup.{asked, item_named, count_of, item_of, shelf_verdict, shelved_file, looked_up}
 use Rattle.link.specs.declared.building.Wanted.{Wanted}
 use Rattle.link.specs.declared.building.Wanted.TheVariants.{Message, Enum}
-use Rattle.link.specs.declared.link.Linked.TheVariants.{Accepted}
-use Rattle.link.specs.declared.lookup.Looked.TheVariants.{Found}
 use Rattle.link.proofs.TableLaws.{all_passed, given_none, lengths_pass}
 use Rattle.link.proofs.ShelfFacts.{files_length}
 use Rattle.link.proofs.FileLookupLaws.{item_in_lem}
@@ -32,7 +30,7 @@ use Rattle.demands.proofs.Demands.{accepted_verdict, accepted_outcome, acceptanc
 use Rattle.demands.proofs.ShelfTheorems.{file_fits_lem, accepted_well_formed, accepted_files}
 use Rattle.demands.proofs.LookupTheorems.{item_found_if}
 
-module _ (c : Call) (u : Used) (h : (linked c).answer ≡ Accepted u) where
+module _ (c : Call) (u : Used) (h : (linked c).answer ≡ Ok u) where
   -- the shelf that is left, and the number of the new file
   abbrev left : Call
   left = asked (linked c).words (linked c).bytes u
@@ -50,7 +48,7 @@ module _ (c : Call) (u : Used) (h : (linked c).answer ≡ Accepted u) where
       all_of_lem (length_tests left)
       (ap (λ (n : ℕ). leb n word_limit) now.words.size ∙ passed.0, (ap (λ (n : ℕ). leb n byte_limit) now.bytes.size ∙ passed.1.0, (refl, (refl, tt))))
 
-  shelf_passes : shelf_verdict left ≡ Passed
+  shelf_passes : shelf_verdict left ≡ Ok tt
   unfolding shelf_verdict length_lines shelf_lines
   shelf_passes = given_none (length_lines left ++ shelf_lines left) (ap not lengths_kept, (ap not (accepted_well_formed c u h), tt))
 
@@ -75,12 +73,12 @@ module _ (c : Call) (u : Used) (h : (linked c).answer ≡ Accepted u) where
   -- ---- what is found there
 
   found_new : (wanted : Wanted) (name : List ℕ) (i : ℕ)
-      → (looked_up left new (λ x. item_named wanted x name) ≡ Found i)
+      → (looked_up left new (λ x. item_named wanted x name) ≡ Ok (Some i))
       ↔ (GoesOn left new × (i < count_of wanted (said c)) × (name ≡ dot ∷ full_name (said c) (new_file c).links (item_of wanted (said c) i)))
   found_new wanted name i = rw new_there at (item_found_if left new wanted name i)
 
   found_given : (wanted : Wanted) (name : List ℕ) (i : ℕ)
-      → (looked_up left new (λ x. item_named wanted x name) ≡ Found i) ↔ ((i < count_of wanted (said c)) × (name ≡ dot ∷ given_name c (item_of wanted (said c) i)))
+      → (looked_up left new (λ x. item_named wanted x name) ≡ Ok (Some i)) ↔ ((i < count_of wanted (said c)) × (name ≡ dot ∷ given_name c (item_of wanted (said c) i)))
   found_given wanted name i =
       let found = found_new wanted name i in (
         (λ t. let f = found.0 t in (f.1, f.2 ∙ ap (λ (l : List ℕ). dot ∷ l) (name_kept wanted i f.1))),

@@ -8,6 +8,7 @@ use lib.Dec.{eqb}
 use lib.ListN.{length, length-append, get_or-append}
 use lib.Seq.{get_or-append-add}
 use borrow.Author.Tests.{eq-eqb, ne_eqb, eqb-true}
+use Rattle.std.specs.Prelude.{Ok}
 use Rattle.lists.specs.Below.{bit}
 use Rattle.lists.proofs.Cases.{by, either}
 use Rattle.image.specs.Words.{word_at}
@@ -23,7 +24,6 @@ use Rattle.link.specs.Audit.{mark_by, read_mark}
 use Rattle.link.specs.declared.audit.Mark.{Mark}
 use Rattle.link.specs.declared.audit.Mark.TheVariants.{AlwaysInitialised, MayBeIncomplete}
 use Rattle.demands.specs.Demands.{graph_of_call, message_written_at, always_word, distance_word, EachMarkTrue, EachMarkRead}
-use Rattle.link.specs.declared.link.Linked.TheVariants.{Accepted}
 use Rattle.demands.proofs.ChainTheorems.{distance_or, marked-distance, distance-shortest}
 use Rattle.link.proofs.PhaseLaws.{all_links-length}
 use Rattle.demands.proofs.RowFacts.{always_word_lem, distance_word_lem}
@@ -32,7 +32,7 @@ use Rattle.demands.proofs.ShelfTheorems.{passed_sound}
 
 -- a mark is not both
 marks_differ : {C : Type 0} (a : Mark) {d : ℕ} → a ≡ MayBeIncomplete d → AlwaysInitialised ≡ a → C
-marks_differ a e f = let z : ◌≡◌ {A = ℕ} 0 1 = cc in absurd (omega arith)
+marks_differ a e f = cc
 
 -- ---- the two words of a mark, for a graph of few messages
 
@@ -85,7 +85,7 @@ module _ (g : Graph) (i : ℕ) (l : i < g.n) (few : g.n ≤ 256) {always far : �
 
 -- ---- where they stand
 
-module _ (c : Call) (u : Used) (h : (linked c).answer ≡ Accepted u) where
+module _ (c : Call) (u : Used) (h : (linked c).answer ≡ Ok u) where
   -- a word of the link rows, on the shelf
   written-word : (k : ℕ) → k < length (new_file c).links → word_at (linked c).words (c.used.words + (length c.image + k)) ≡ word_at (new_file c).links k
   written-word k l =

@@ -6,6 +6,7 @@ use Prim.Native.Nat.{ℕ, ◌<◌}
 use lib.Dec.{leb}
 use lib.ListN.{length}
 use borrow.Author.Tests.{not-false}
+use Rattle.std.specs.Prelude.{Ok, is_some, is_none}
 use Rattle.lists.proofs.Cases.{right, all_of_lem}
 use Rattle.lists.proofs.BelowLaws.{all_below_intro}
 use Rattle.image.specs.Layout.{image_limit, laid_out, laid_out_within_limit}
@@ -13,11 +14,10 @@ use Rattle.image.specs.Laid.{Sound}
 use Rattle.image.specs.Links.{links_of}
 use Rattle.image.specs.Record.{all_link_words}
 use Rattle.image.specs.LinkTests.{link_tests, links_fit}
-use Rattle.image.specs.Shelf.{file_limit, is_nothing, file_named, image_tests, image_obeys, imports_named, shelved_tests, file_fits, well_formed}
+use Rattle.image.specs.Shelf.{file_limit, file_named, image_tests, image_obeys, imports_named, shelved_tests, file_fits, well_formed}
 use Rattle.image.specs.Verdict.{first, passes}
 use Rattle.image.specs.Judge.{map_entry_lines, naming_lines}
 use Rattle.image.specs.declared.shelf.Used.{Used}
-use Rattle.image.specs.declared.verdict.Verdict.TheVariants.{Passed}
 use Rattle.image.proofs.ObeyLaws.{Opened}
 use Rattle.image.proofs.AppendLaws.{files_with, still_well_formed}
 use Rattle.link.specs.Search.{searched}
@@ -25,7 +25,6 @@ use Rattle.link.specs.Given.{NoneGiven}
 use Rattle.link.specs.Refusals.{Call, said, shelved_files, seen, name_lines, new_file, length_lines, shelf_lines, table}
 use Rattle.link.specs.Link.{linked}
 use Rattle.link.specs.Phases.{call_of, from_opening}
-use Rattle.link.specs.declared.link.Linked.TheVariants.{Accepted}
 use Rattle.demands.specs.Demands.{AcceptanceFits, AcceptanceAdds}
 use Rattle.link.proofs.TableLaws.{name_group, naming_group, AllPassed, all_passed, none_given, given_none, shelf_pass}
 use Rattle.link.proofs.ShelfFacts.{opened_full, imports_found}
@@ -37,8 +36,8 @@ use Rattle.demands.proofs.Demands.{accepted_verdict, accepted_outcome, accepted_
 
 -- ---- the refusals and rule 2 meet: a file that draws none is in order behind the shelved files
 
-module _ (c : Call) (passed : first (table c) ≡ Passed) where
-  from_opening_lem : first (from_opening c) ≡ Passed
+module _ (c : Call) (passed : first (table c) ≡ Ok tt) where
+  from_opening_lem : first (from_opening c) ≡ Ok tt
   unfolding table
   from_opening_lem = (both_passed (shelf_lines c) (from_opening c) (both_passed (length_lines c) (shelf_lines c ++ from_opening c) passed).1).1
 
@@ -67,15 +66,15 @@ module _ (c : Call) (passed : first (table c) ≡ Passed) where
       (laid, (opened.within, (opened.texts, (ap not naming.0, (ap passes (given_none (map_entry_lines (said c) (links_of (said c))) naming.1), (clash_free_lem (seen c) (searched (seen c)) passed_sound groups.fields, tt))))))
 
   -- 6 and 7
-  name_fresh : is_nothing (file_named (shelved_files c) (said c).file_name) ≡ true
+  name_fresh : is_none (file_named (shelved_files c) (said c).file_name) ≡ true
   unfolding name_lines
-  name_fresh = not-false (is_nothing (file_named (shelved_files c) (said c).file_name)) (none_given (name_group c) groups.name).0
+  name_fresh = ap not (none_given (name_group c) groups.name).0
 
   imports_named_lem : imports_named (shelved_files c) (new_file c) ≡ true
   unfolding imports_named
   imports_named_lem =
-      all_below_intro (said c).imports (λ i. not (is_nothing (file_named (shelved_files c) ((said c).import_name i))))
-      (λ i l. ap not (imports_found (shelved_files c) (said c) groups.imports i l))
+      all_below_intro (said c).imports (λ i. is_some (file_named (shelved_files c) ((said c).import_name i)))
+      (λ i l. not-false (is_some (file_named (shelved_files c) ((said c).import_name i))) (imports_found (shelved_files c) (said c) groups.imports i l))
 
   -- 12 to 16, and the marks
   link_room : links_fit (shelved_files c ++ (new_file c ∷ [])) (new_file c) ≡ true
@@ -116,7 +115,7 @@ accepted_files c u h =
     (files_with c.words c.bytes c.used (new_file c) (rows_counted c passed) (was_formed c passed) room.0 room.1)
 
 -- So in the next call, whatever file it brings, the line of 2 is not given.
-pub next_shelf_passes : (c : Call) (u : Used) → (linked c).answer ≡ Accepted u → (image pool : List ℕ)
+pub next_shelf_passes : (c : Call) (u : Used) → (linked c).answer ≡ Ok u → (image pool : List ℕ)
     → NoneGiven (shelf_lines (call_of (linked c).words (linked c).bytes u image pool))
 unfolding shelf_lines
 next_shelf_passes c u h image pool = (ap not (accepted_well_formed c u h), tt)

@@ -32,7 +32,7 @@ use Rattle.link.specs.Chain.{distance}
 use Rattle.link.specs.Rows.{field_links, all_links}
 use Rattle.link.specs.Refusals.{word_limit, byte_limit, length_lines, shelf_lines, name_lines, import_lines, all_field_lines, room_lines, table}
 use Rattle.link.specs.Link.{linked}
-use Rattle.link.specs.Lookup.{value_numbered, value_named, shelf_verdict, way_to, looked_up}
+use Rattle.link.specs.Lookup.{value_numbered, value_named, shelf_verdict, opened_file, looked_up}
 use Rattle.demands.specs.Worked.{WholeCase, WholeByRows, WorkedTable}
 
 -- ---- what the rows compute with. To unfold one of these is to unfold all that its line names
@@ -78,7 +78,7 @@ unfolding opening_lines naming_lines length_lines shelf_lines name_lines import_
 refusals = tt
 
 lookups : Unit {0}
-unfolding value_by_number value_by_name value_numbered value_named shelf_verdict way_to looked_up
+unfolding value_by_number value_by_name value_numbered value_named shelf_verdict opened_file looked_up
 lookups = tt
 
 computed : Unit {0}

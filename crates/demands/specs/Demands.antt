@@ -1,5 +1,5 @@
 -- What linking owes its callers: demands 1 to 3, over the outcome `linked` that the code is proved to have. Assumes nothing.
-use Rattle.std.specs.Prelude.{◌≡◌, ◌↔◌, true, List, [], ◌∷◌, ◌++◌, ℕ, ◌+◌, ◌<◌, ◌≤◌, length, get_or}
+use Rattle.std.specs.Prelude.{◌≡◌, ◌↔◌, true, List, [], ◌∷◌, ◌++◌, ℕ, ◌+◌, ◌<◌, ◌≤◌, length, get_or, Some, Ok, Err}
 use Rattle.names.specs.Bytes.{dot}
 use Rattle.image.specs.Words.{word_at}
 use Rattle.image.specs.Links.{links_of}
@@ -8,8 +8,7 @@ use Rattle.image.specs.Record.{message_link_at}
 use Rattle.image.specs.LinkTests.{mark_at, no_distance}
 use Rattle.image.specs.Shelf.{used_with, used_part, files_of, well_formed}
 use Rattle.image.specs.declared.shelf.Used.{Used}
-use Rattle.image.specs.declared.verdict.Refusal.{Refusal}
-use Rattle.image.specs.declared.verdict.Verdict.TheVariants.{Passed}
+use Rattle.image.specs.declared.verdict.Refused.{Refused}
 use Rattle.link.specs.Search.{searched}
 use Rattle.link.specs.Chain.{Graph, Marked, Distance}
 use Rattle.link.specs.Marks.{graph_of}
@@ -21,8 +20,6 @@ use Rattle.link.specs.Lookup.{item_named, asked, shelf_verdict, shelved_file, lo
 use Rattle.link.specs.Audit.{read_mark}
 use Rattle.link.specs.declared.audit.Mark.TheVariants.{AlwaysInitialised, MayBeIncomplete}
 use Rattle.link.specs.declared.building.Wanted.TheVariants.{Message, Enum}
-use Rattle.link.specs.declared.link.Linked.TheVariants.{Accepted, Refused}
-use Rattle.link.specs.declared.lookup.Looked.TheVariants.{Found}
 
 -- the three numbers that a call leaves, and its shelf, as lookups are asked over it
 abbrev pub used_after : Call → Used
@@ -35,11 +32,11 @@ shelf_after c = asked (linked c).words (linked c).bytes (used_after c)
 
 -- "Given exactly if": with this place, and no earlier line of the table is given
 abbrev pub RefusedExactlyIf : Call → Type 0
-RefusedExactlyIf c = (r : Refusal) (p : ℕ) → ((linked c).answer ≡ Refused r p) ↔ Given (table c) r p
+RefusedExactlyIf c = (r : Refused) → ((linked c).answer ≡ Err r) ↔ Given (table c) r.refusal r.place
 
 -- a file is accepted exactly if no line is given
 abbrev pub AcceptedExactlyIf : Call → Type 0
-AcceptedExactlyIf c = ((linked c).answer ≡ Accepted (used_with c.used (new_file c))) ↔ NoneGiven (table c)
+AcceptedExactlyIf c = ((linked c).answer ≡ Ok (used_with c.used (new_file c))) ↔ NoneGiven (table c)
 
 -- "shelf slices and the three numbers stay"
 pub record Unchanged (c : Call) : Type 0 where
@@ -48,7 +45,7 @@ pub record Unchanged (c : Call) : Type 0 where
   pub numbers : used_after c ≡ c.used
 
 abbrev pub RefusalLeaves : Call → Type 0
-RefusalLeaves c = (r : Refusal) (p : ℕ) → (linked c).answer ≡ Refused r p → Unchanged c
+RefusalLeaves c = (r : Refused) → (linked c).answer ≡ Err r → Unchanged c
 
 -- `vs` has room in `was` from place `at` on, and stands there in `now`; before it, behind it and in length all is as in `was`
 pub record Written (was now vs : List ℕ) (at : ℕ) : Type 0 where
@@ -66,15 +63,15 @@ pub record Appended (c : Call) : Type 0 where
   pub numbers : used_after c ≡ used_with c.used (new_file c)
 
 abbrev pub AcceptanceAppends : Call → Type 0
-AcceptanceAppends c = (u : Used) → (linked c).answer ≡ Accepted u → Appended c
+AcceptanceAppends c = (u : Used) → (linked c).answer ≡ Ok u → Appended c
 
 -- the shelf that an acceptance leaves is well formed, with the three numbers of the answer
 abbrev pub AcceptanceFits : Call → Type 0
-AcceptanceFits c = (u : Used) → (linked c).answer ≡ Accepted u → well_formed (linked c).words (linked c).bytes u ≡ true
+AcceptanceFits c = (u : Used) → (linked c).answer ≡ Ok u → well_formed (linked c).words (linked c).bytes u ≡ true
 
 -- and its files are those that were there, and the new one
 abbrev pub AcceptanceAdds : Call → Type 0
-AcceptanceAdds c = (u : Used) → (linked c).answer ≡ Accepted u → files_of u.files (used_part (linked c).words (linked c).bytes u) ≡ shelved_files c ++ (new_file c ∷ [])
+AcceptanceAdds c = (u : Used) → (linked c).answer ≡ Ok u → files_of u.files (used_part (linked c).words (linked c).bytes u) ≡ shelved_files c ++ (new_file c ∷ [])
 
 -- "two outcomes allowed by one promise are equal"
 abbrev pub OneOutcome : Call → Type 0
@@ -88,11 +85,11 @@ given_name c i = full_name (said c) (links_of (said c)) i
 
 -- no two items of an accepted file have one full name
 abbrev pub NamesDiffer : Call → Type 0
-NamesDiffer c = (u : Used) → (linked c).answer ≡ Accepted u → (i j : ℕ) → i < items (said c) → j < items (said c) → given_name c i ≡ given_name c j → i ≡ j
+NamesDiffer c = (u : Used) → (linked c).answer ≡ Ok u → (i j : ℕ) → i < items (said c) → j < items (said c) → given_name c i ≡ given_name c j → i ≡ j
 
 -- a lookup goes on in file f: neither 1 nor 2 is given, and the shelf has that file
 abbrev pub GoesOn : Call → ℕ → Type 0
-GoesOn c f = (shelf_verdict c ≡ Passed) × (f < c.used.files)
+GoesOn c f = (shelf_verdict c ≡ Ok tt) × (f < c.used.files)
 
 -- what linking numbered is found by its full name behind a dot, and nothing else is: in the new file, whose number is that of the files
 -- before it
@@ -100,12 +97,12 @@ pub record FoundByName (c shelf : Call) : Type 0 where
   pub goes_on : GoesOn shelf c.used.files
   pub is_new : shelved_file shelf c.used.files ≡ new_file c
   pub messages : (name : List ℕ) (m : ℕ)
-      → (looked_up shelf c.used.files (λ x. item_named Message x name) ≡ Found m) ↔ ((m < (said c).messages) × (name ≡ dot ∷ given_name c m))
+      → (looked_up shelf c.used.files (λ x. item_named Message x name) ≡ Ok (Some m)) ↔ ((m < (said c).messages) × (name ≡ dot ∷ given_name c m))
   pub enums : (name : List ℕ) (e : ℕ)
-      → (looked_up shelf c.used.files (λ x. item_named Enum x name) ≡ Found e) ↔ ((e < (said c).enums) × (name ≡ dot ∷ given_name c ((said c).messages + e)))
+      → (looked_up shelf c.used.files (λ x. item_named Enum x name) ≡ Ok (Some e)) ↔ ((e < (said c).enums) × (name ≡ dot ∷ given_name c ((said c).messages + e)))
 
 abbrev pub NumberedIsFound : Call → Type 0
-NumberedIsFound c = (u : Used) → (linked c).answer ≡ Accepted u → FoundByName c (shelf_after c)
+NumberedIsFound c = (u : Used) → (linked c).answer ≡ Ok u → FoundByName c (shelf_after c)
 
 -- ---- demand 3: marks, over the words that the shelf holds after an accepted call
 
@@ -134,7 +131,7 @@ pub record MarksTrue (c : Call) (m : ℕ) : Type 0 where
   pub unmarked : (always_word c m ≡ 0 → ⊥) → (always_word c m ≡ 1) × (distance_word c m ≡ no_distance)
 
 abbrev pub EachMarkTrue : Call → Type 0
-EachMarkTrue c = (u : Used) → (linked c).answer ≡ Accepted u → (m : ℕ) → m < (said c).messages → MarksTrue c m
+EachMarkTrue c = (u : Used) → (linked c).answer ≡ Ok u → (m : ℕ) → m < (said c).messages → MarksTrue c m
 
 -- and so is what is read of it, off the link rows of the new file
 pub record ReadTrue (c : Call) (m : ℕ) : Type 0 where
@@ -142,4 +139,4 @@ pub record ReadTrue (c : Call) (m : ℕ) : Type 0 where
   pub always : (read_mark (new_file c).links m ≡ AlwaysInitialised) ↔ (Marked (graph_of_call c) m → ⊥)
 
 abbrev pub EachMarkRead : Call → Type 0
-EachMarkRead c = (u : Used) → (linked c).answer ≡ Accepted u → (m : ℕ) → m < (said c).messages → ReadTrue c m
+EachMarkRead c = (u : Used) → (linked c).answer ≡ Ok u → (m : ℕ) → m < (said c).messages → ReadTrue c m

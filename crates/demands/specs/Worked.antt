@@ -1,6 +1,6 @@
 -- The whole case and the worked table, over the definitions that contracts cite: what linking leaves on a shelf, and what is found there.
 -- Assumes nothing.
-use Rattle.std.specs.Prelude.{ℕ, ◌+◌, ◌≤◌, ◌≡◌, List, [], ◌∷◌, ◌++◌, map, length, get_or, drop, replicate}
+use Rattle.std.specs.Prelude.{ℕ, ◌+◌, ◌≤◌, ◌≡◌, List, [], ◌∷◌, ◌++◌, map, length, get_or, drop, replicate, Some, Ok}
 use Rattle.lists.specs.Lists.{part}
 use Rattle.names.specs.Worked.{NameRows}
 use Rattle.image.specs.Record.{File, FieldLink, no_file, says, message_link_at, field_link_at, field_link_width, link_row, field_link_of}
@@ -14,8 +14,6 @@ use Rattle.link.specs.Lookup.{value_numbered, value_named, looked_up}
 use Rattle.link.specs.Phases.{call_of}
 use Rattle.demands.specs.Demands.{used_after, shelf_after}
 use Rattle.demands.specs.WorkedFiles.{Source, image_of, whole_file, value_file, chain_file, self_file, file_p, file_q, file_r, file_s, import_file, A, p, q, r, s}
-use Rattle.link.specs.declared.link.Linked.TheVariants.{Accepted}
-use Rattle.link.specs.declared.lookup.Looked.TheVariants.{Found}
 
 abbrev nothing_used : Used
 nothing_used = record { words = 0; bytes = 0; files = 0 }
@@ -47,7 +45,7 @@ WholeCase =
     (words bytes : List ℕ) → 56 ≤ length words → length words ≤ word_limit → 2 ≤ length bytes → length bytes ≤ byte_limit
     → linked (call_of words bytes nothing_used whole_image whole_pool)
     ≡ record {
-      answer = Accepted (record { words = 56; bytes = 2; files = 1 });
+      answer = Ok (record { words = 56; bytes = 2; files = 1 });
       words = whole_record ++ drop 56 words;
       bytes = whole_pool ++ drop 2 bytes;
     }
@@ -86,9 +84,9 @@ abbrev pub ValueRows : Type 0
 ValueRows =
     IsAccepted value_call
     -- number 1 finds 2
-    × (looked_up (shelf_after value_call) 0 (λ x. value_numbered x 0 1) ≡ Found 2)
+    × (looked_up (shelf_after value_call) 0 (λ x. value_numbered x 0 1) ≡ Ok (Some 2))
     -- name A finds 2
-    × (looked_up (shelf_after value_call) 0 (λ x. value_named x 0 A) ≡ Found 2)
+    × (looked_up (shelf_after value_call) 0 (λ x. value_named x 0 A) ≡ Ok (Some 2))
     -- default A is 0; default kind 4 is an enum
     × ((first_link (shelved_by value_call)).default_kind ≡ 4)
     × ((first_link (shelved_by value_call)).low ≡ 0)

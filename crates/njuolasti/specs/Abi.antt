@@ -1,10 +1,8 @@
 -- What the C interface answers, in numbers: over the outcome of linking and of lookups. Assumes nothing.
-use Rattle.std.specs.Prelude.{List, ℕ}
+use Rattle.std.specs.Prelude.{List, ℕ, Ok, Err}
 use Rattle.image.specs.declared.shelf.Used.{Used}
 use Rattle.link.specs.Refusals.{Call}
-use Rattle.image.specs.Verdict.{number}
-use Rattle.image.specs.declared.verdict.Verdict.{Verdict}
-use Rattle.image.specs.declared.verdict.Verdict.TheVariants.{Passed, Stopped}
+use Rattle.image.specs.Verdict.{Verdict, number}
 use Rattle.link.specs.Link.{linked, answer_used}
 use Rattle.link.specs.Lookup.{asked}
 
@@ -27,5 +25,5 @@ asked_with words bytes usedWords usedBytes files = asked words bytes (used_of us
 
 -- 0 where nothing is refused, else the refusal's number
 abbrev pub verdict_number : Verdict → ℕ
-verdict_number Passed = 0
-verdict_number (Stopped r p) = number r
+verdict_number (Ok u) = 0
+verdict_number (Err r) = number r.refusal

@@ -5,10 +5,9 @@ ghost use Rattle.link.specs.declared.building.Wanted.TheVariants.{Message, Enum}
 ghost use Rattle.link.specs.Lookup.{item_named, value_numbered, value_named, field_numbered, field_named, shelf_verdict, looked_number, looked_value, looked_up, item_written, name_written};
 ghost use Rattle.njuolasti.specs.Abi.{call_with, used_after, asked_with, verdict_number};
 
-use crate::answers;
+use crate::answers::{answer, answer_number, answer_place, answer_used, lent};
 use image::shelf::Used;
 use link::lookup;
-use link::lookup::Looked;
 
 // Links an image onto a shelf: 0 and the three new numbers, or the refusal's number and its place, with words, bytes and numbers as they were.
 #[unsafe(no_mangle)]
@@ -35,13 +34,13 @@ pub extern "C" fn njuolasti_link(
         bytes: *used_bytes,
         files: *files,
     };
-    let l = link::link::link(words, bytes, used, image, pool);
-    let after = answers::answer_used(used, l);
+    let linked = link::link::link(words, bytes, used, image, pool);
+    let after = answer_used(used, linked);
     *used_words = after.words;
     *used_bytes = after.bytes;
     *files = after.files;
-    *place = answers::answer_place(l);
-    answers::answer_number(l)
+    *place = answer_place(linked);
+    answer_number(linked)
 }
 
 // The flat number of a message, by its full name behind a dot.
@@ -59,14 +58,9 @@ pub extern "C" fn njuolasti_message(
     ensures value { result ≡ looked_number (looked_up (asked_with words.now bytes.now used_words used_bytes files) file (λ x. item_named Message x name.now)) }
     ensures found_after { found.new ≡ looked_value (looked_up (asked_with words.now bytes.now used_words used_bytes files) file (λ x. item_named Message x name.now)) }
 {
-    let used = Used {
-        words: used_words,
-        bytes: used_bytes,
-        files,
-    };
-    let l = lookup::message_by_full_name(words, bytes, used, file, name);
-    *found = l.value();
-    l.number()
+    let lent = lent(words, bytes, used_words, used_bytes, files);
+    let looked = lookup::message_by_full_name(&lent, file, name);
+    answer(looked, found)
 }
 
 // The flat number of an enum, by its full name behind a dot.
@@ -84,14 +78,9 @@ pub extern "C" fn njuolasti_enum(
     ensures value { result ≡ looked_number (looked_up (asked_with words.now bytes.now used_words used_bytes files) file (λ x. item_named Enum x name.now)) }
     ensures found_after { found.new ≡ looked_value (looked_up (asked_with words.now bytes.now used_words used_bytes files) file (λ x. item_named Enum x name.now)) }
 {
-    let used = Used {
-        words: used_words,
-        bytes: used_bytes,
-        files,
-    };
-    let l = lookup::enum_by_full_name(words, bytes, used, file, name);
-    *found = l.value();
-    l.number()
+    let lent = lent(words, bytes, used_words, used_bytes, files);
+    let looked = lookup::enum_by_full_name(&lent, file, name);
+    answer(looked, found)
 }
 
 // The place of an enum's value, by number.
@@ -110,14 +99,9 @@ pub extern "C" fn njuolasti_value_by_number(
     ensures value { result ≡ looked_number (looked_up (asked_with words.now bytes.now used_words used_bytes files) file (λ x. value_numbered x index number)) }
     ensures found_after { found.new ≡ looked_value (looked_up (asked_with words.now bytes.now used_words used_bytes files) file (λ x. value_numbered x index number)) }
 {
-    let used = Used {
-        words: used_words,
-        bytes: used_bytes,
-        files,
-    };
-    let l = lookup::value_by_number(words, bytes, used, file, index, number);
-    *found = l.value();
-    l.number()
+    let lent = lent(words, bytes, used_words, used_bytes, files);
+    let looked = lookup::value_by_number(&lent, file, index, number);
+    answer(looked, found)
 }
 
 // The place of an enum's value, by name.
@@ -136,14 +120,9 @@ pub extern "C" fn njuolasti_value_by_name(
     ensures value { result ≡ looked_number (looked_up (asked_with words.now bytes.now used_words used_bytes files) file (λ x. value_named x index name.now)) }
     ensures found_after { found.new ≡ looked_value (looked_up (asked_with words.now bytes.now used_words used_bytes files) file (λ x. value_named x index name.now)) }
 {
-    let used = Used {
-        words: used_words,
-        bytes: used_bytes,
-        files,
-    };
-    let l = lookup::value_by_name(words, bytes, used, file, index, name);
-    *found = l.value();
-    l.number()
+    let lent = lent(words, bytes, used_words, used_bytes, files);
+    let looked = lookup::value_by_name(&lent, file, index, name);
+    answer(looked, found)
 }
 
 // The flat number of a message's field, by number.
@@ -162,14 +141,9 @@ pub extern "C" fn njuolasti_field_by_number(
     ensures value { result ≡ looked_number (looked_up (asked_with words.now bytes.now used_words used_bytes files) file (λ x. field_numbered x message number)) }
     ensures found_after { found.new ≡ looked_value (looked_up (asked_with words.now bytes.now used_words used_bytes files) file (λ x. field_numbered x message number)) }
 {
-    let used = Used {
-        words: used_words,
-        bytes: used_bytes,
-        files,
-    };
-    let l = lookup::field_by_number(words, bytes, used, file, message, number);
-    *found = l.value();
-    l.number()
+    let lent = lent(words, bytes, used_words, used_bytes, files);
+    let looked = lookup::field_by_number(&lent, file, message, number);
+    answer(looked, found)
 }
 
 // The flat number of a message's field, by name: mode 0 is the usual, 1 own name, 2 own or JSON name.
@@ -189,14 +163,9 @@ pub extern "C" fn njuolasti_field_by_name(
     ensures value { result ≡ looked_number (looked_up (asked_with words.now bytes.now used_words used_bytes files) file (λ x. field_named x message mode name.now)) }
     ensures found_after { found.new ≡ looked_value (looked_up (asked_with words.now bytes.now used_words used_bytes files) file (λ x. field_named x message mode name.now)) }
 {
-    let used = Used {
-        words: used_words,
-        bytes: used_bytes,
-        files,
-    };
-    let l = lookup::field_by_name(words, bytes, used, file, message, mode, name);
-    *found = l.value();
-    l.number()
+    let lent = lent(words, bytes, used_words, used_bytes, files);
+    let looked = lookup::field_by_name(&lent, file, message, mode, name);
+    answer(looked, found)
 }
 
 // The full name of a message, without a dot in front, and its length; or nothing where `out` is too short, which then stays.
@@ -216,14 +185,9 @@ pub extern "C" fn njuolasti_message_name(
     ensures found_after { found.new ≡ looked_value (name_written (asked_with words.now bytes.now used_words used_bytes files) file out.old (item_written Message message)).answer }
     ensures out_after { out.new ≡ (name_written (asked_with words.now bytes.now used_words used_bytes files) file out.old (item_written Message message)).out }
 {
-    let used = Used {
-        words: used_words,
-        bytes: used_bytes,
-        files,
-    };
-    let l = lookup::message_full_name(words, bytes, used, file, message, out);
-    *found = l.value();
-    l.number()
+    let lent = lent(words, bytes, used_words, used_bytes, files);
+    let looked = lookup::message_full_name(&lent, file, message, out);
+    answer(looked, found)
 }
 
 // The full name of an enum, likewise.
@@ -243,14 +207,9 @@ pub extern "C" fn njuolasti_enum_name(
     ensures found_after { found.new ≡ looked_value (name_written (asked_with words.now bytes.now used_words used_bytes files) file out.old (item_written Enum index)).answer }
     ensures out_after { out.new ≡ (name_written (asked_with words.now bytes.now used_words used_bytes files) file out.old (item_written Enum index)).out }
 {
-    let used = Used {
-        words: used_words,
-        bytes: used_bytes,
-        files,
-    };
-    let l = lookup::enum_full_name(words, bytes, used, file, index, out);
-    *found = l.value();
-    l.number()
+    let lent = lent(words, bytes, used_words, used_bytes, files);
+    let looked = lookup::enum_full_name(&lent, file, index, out);
+    answer(looked, found)
 }
 
 // Whether a shelf is well formed: 0, or 1 or 2 as refused.
@@ -264,12 +223,8 @@ pub extern "C" fn njuolasti_well_formed(
 ) -> u32
     ensures { result ≡ verdict_number (shelf_verdict (asked_with words.now bytes.now used_words used_bytes files)) }
 {
-    let used = Used {
-        words: used_words,
-        bytes: used_bytes,
-        files,
-    };
-    let checked = lookup::check_shelf(words, bytes, used);
-    let verdict = checked.verdict;
-    answers::verdict_number(verdict)
+    match lookup::check_shelf(&lent(words, bytes, used_words, used_bytes, files)) {
+        Ok(_) => 0,
+        Err(refused) => refused.refusal.number(),
+    }
 }

@@ -3,4 +3,4 @@ use Rattle.njuolasti.proofs.AbiLaws.{told}
 use Rattle.njuolasti.proofs.abi.njuolasti_field_by_number.Goals as goal
 
 pub returns : goal.returns
-returns c = told c.number.ensures c.value.ensures c.field_by_number-l.ensures
+returns c = told c.answer.ensures (rw c.lent-lent.ensures at c.field_by_number-looked.ensures)

@@ -3,4 +3,4 @@ use Rattle.njuolasti.proofs.AbiLaws.{told}
 use Rattle.njuolasti.proofs.abi.njuolasti_message.Goals as goal
 
 pub returns : goal.returns
-returns c = told c.number.ensures c.value.ensures c.message_by_full_name-l.ensures
+returns c = told c.answer.ensures (rw c.lent-lent.ensures at c.message_by_full_name-looked.ensures)

@@ -1,8 +1,0 @@
--- `njuolasti::answers::answer_place` meets its contract. Assumes nothing.
-use Rattle.njuolasti.proofs.answers.answer_place.Goals as goal
-
-pub returns-in-Accepted : goal.returns-in-Accepted
-returns-in-Accepted c = rw c.in-Accepted.is
-
-pub returns-in-Refused : goal.returns-in-Refused
-returns-in-Refused c = rw c.in-Refused.is
