@@ -1,104 +1,53 @@
 // The listing: each file, and each of its messages.
 use crate::tally::Tally;
-use crate::{tally, tell};
+use crate::tell;
 use image::rows::Flat;
-use image::shelf::Places;
-use image::{shelf, well_formed};
+use image::shelf::{File, Shelf};
+use image::well_formed;
 use link::audit;
 use shelf_io::say;
 use shelf_io::sentences::tell_file;
 
 // What a message has under the name of the field that is asked for.
-fn list_carried(
-    rt: &impl Print,
-    image: &[u32],
-    pool: &[u8],
-    links: &[u32],
-    m: u32,
-    field: &[u8],
-    t: Tally,
-) -> Tally {
-    let c = audit::carried_under(image, pool, links, Flat(m), field);
+fn list_carried(rt: &impl Print, file: &File, m: Flat, field: &[u8], t: Tally) -> Tally {
+    let c = audit::carried_under(file, m, field);
     tell::tell_carried(rt, field, c);
-    t.carried(c, audit::passes_without(image, c))
+    t.carried(c, audit::passes_without(file.image, c))
 }
 
-fn list_message(
-    rt: &impl Print,
-    image: &[u32],
-    pool: &[u8],
-    links: &[u32],
-    m: u32,
-    asked: bool,
-    field: &[u8],
-    t: Tally,
-) -> Tally {
-    let mark = audit::mark_of(links, Flat(m));
+fn list_message(rt: &impl Print, file: &File, m: Flat, field: Option<&[u8]>, t: Tally) -> Tally {
+    let mark = audit::mark_of(file.links, m);
     say::text(rt, b"  ");
-    say::spaces(rt, tell::tell_name(rt, image, pool, links, m), 32);
+    say::spaces(rt, tell::tell_name(rt, file, m), 32);
     let n = tell::tell_mark(rt, mark);
     let counted = t.message(mark);
-    if !asked {
-        say::text(rt, b"\n");
-        return counted;
-    }
-    say::spaces(rt, n, 40);
-    let known = list_carried(rt, image, pool, links, m, field, counted);
+    let known = match field {
+        None => counted,
+        Some(field) => {
+            say::spaces(rt, n, 40);
+            list_carried(rt, file, m, field, counted)
+        }
+    };
     say::text(rt, b"\n");
     known
 }
 
-fn list_messages(
-    rt: &impl Print,
-    image: &[u32],
-    pool: &[u8],
-    links: &[u32],
-    asked: bool,
-    field: &[u8],
-    t: Tally,
-) -> Tally {
-    let n = audit::message_count(image);
+fn list_file(rt: &impl Print, shelf: &Shelf, f: u32, field: Option<&[u8]>, t: Tally) -> Tally {
+    let file = shelf.file(f);
+    tell_file(rt, f, well_formed::file_name(shelf, f));
+    say::text(rt, b"\n");
     let mut counted = t;
-    let mut m = 0;
-    while m < n {
-        counted = list_message(rt, image, pool, links, m, asked, field, counted);
-        m += 1;
+    for m in 0..audit::message_count(file.image) {
+        counted = list_message(rt, &file, Flat(m), field, counted);
     }
     counted
 }
 
-fn list_file(
-    rt: &impl Print,
-    words: &[u32],
-    bytes: &[u8],
-    p: Places,
-    f: u32,
-    asked: bool,
-    field: &[u8],
-    t: Tally,
-) -> Tally {
-    let image = shelf::file_image(words, bytes, p, f);
-    let pool = shelf::file_pool(words, bytes, p, f);
-    let links = shelf::file_links(words, bytes, p, f);
-    tell_file(rt, f, well_formed::file_name(words, bytes, p, f));
-    say::text(rt, b"\n");
-    list_messages(rt, image, pool, links, asked, field, t)
-}
-
-pub fn list_files(
-    rt: &impl Print,
-    words: &[u32],
-    bytes: &[u8],
-    p: Places,
-    files: u32,
-    asked: bool,
-    field: &[u8],
-) -> Tally {
-    let mut t = tally::start();
-    let mut f = 0;
-    while f < files {
-        t = list_file(rt, words, bytes, p, f, asked, field, t);
-        f += 1;
+// Lists the first `n` files.
+pub fn list_files(rt: &impl Print, shelf: &Shelf, n: u32, field: Option<&[u8]>) -> Tally {
+    let mut t = Tally::default();
+    for f in 0..n {
+        t = list_file(rt, shelf, f, field, t);
     }
     t
 }

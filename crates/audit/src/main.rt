@@ -11,23 +11,25 @@ mod passing;
 mod tally;
 mod tell;
 
-use image::shelf::Places;
+use image::shelf::Shelf;
 use shelf_io::arguments::{count_words, read_word};
-use shelf_io::shelves::State;
+use shelf_io::shelves::Opened;
 use shelf_io::{say, shelves};
 use std::rt::{Env, Files};
-use tokens::front_bytes;
+use tokens::front;
 
-// Lists `files` files. `asked` says whether a field is asked for.
-fn audit(rt: &(impl Env + Print), words: &[u32], bytes: &[u8], p: Places, files: u32, asked: bool) {
+// Lists `files` files, and what their messages have under the name of a field where word 2 asks for one.
+fn audit(rt: &(impl Env + Print), shelf: &Shelf, files: u32, asked: bool) {
     let mut buffer = io::buffer();
     let n = read_word(rt, 2, &mut buffer);
-    let field = front_bytes(&buffer, n);
-    let t = listing::list_files(rt, words, bytes, p, files, asked, field);
-    if t.passing != 0 {
-        passing::list_files(rt, words, bytes, p, files, field);
+    let field = if asked { Some(front(&buffer, n)) } else { None };
+    let t = listing::list_files(rt, shelf, files, field);
+    if let Some(field) = field {
+        if t.passing != 0 {
+            passing::list_files(rt, shelf, files, field);
+        }
     }
-    tally::tell(rt, t, files, asked, field);
+    t.say(rt, files, field);
 }
 
 fn run(rt: &(impl Env + Files + Print), words: &mut [u32], bytes: &mut [u8], file: &mut [u8]) {
@@ -40,10 +42,13 @@ fn run(rt: &(impl Env + Files + Print), words: &mut [u32], bytes: &mut [u8], fil
         return;
     }
     let opened = shelves::open_named(rt, 1, file, words, bytes);
-    let state = opened.state;
-    let places = opened.places;
-    if let State::Ready = state {
-        audit(rt, words, bytes, places, opened.used.files, count == 3);
+    if let Ok(Opened { used, places }) = opened {
+        let shelf = Shelf {
+            words,
+            bytes,
+            places,
+        };
+        audit(rt, &shelf, used.files, count == 3);
     }
 }
 

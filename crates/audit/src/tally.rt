@@ -1,9 +1,8 @@
 // How many messages there are, may be incomplete, carry the field that is asked for, and can pass the check without it.
 use link::audit::{Carried, Mark};
-use shelf_io::counts::one_more;
 use shelf_io::say;
 
-#[derive(Clone, Copy)]
+#[derive(Clone, Copy, Default)]
 pub struct Tally {
     pub messages: u64,
     pub marked: u64,
@@ -11,52 +10,43 @@ pub struct Tally {
     pub passing: u64,
 }
 
-pub fn start() -> Tally {
-    Tally {
-        messages: 0,
-        marked: 0,
-        carrying: 0,
-        passing: 0,
-    }
-}
-
 impl Tally {
     pub fn message(mut self, mark: Mark) -> Tally {
-        self.messages = one_more(self.messages);
-        if let Mark::MayBeIncomplete(d) = mark {
-            self.marked = one_more(self.marked);
+        self.messages = self.messages.saturating_add(1);
+        if let Mark::MayBeIncomplete(_) = mark {
+            self.marked = self.marked.saturating_add(1);
         }
         self
     }
 
-    pub fn carried(mut self, c: Carried, passes: bool) -> Tally {
-        if let Carried::Nothing = c {
+    pub fn carried(mut self, c: Option<Carried>, passes: bool) -> Tally {
+        if c.is_none() {
             return self;
         }
-        self.carrying = one_more(self.carrying);
+        self.carrying = self.carrying.saturating_add(1);
         if passes {
-            self.passing = one_more(self.passing);
+            self.passing = self.passing.saturating_add(1);
         }
         self
     }
-}
 
-// The last line.
-pub fn tell(rt: &impl Print, t: Tally, files: u32, asked: bool, field: &[u8]) {
-    say::number(rt, files as u64);
-    say::text(rt, b" files, ");
-    say::number(rt, t.messages);
-    say::text(rt, b" messages, ");
-    say::number(rt, t.marked);
-    say::text(rt, b" may be incomplete");
-    if asked {
-        say::text(rt, b"; ");
-        say::number(rt, t.carrying);
-        say::text(rt, b" carry ");
-        say::text(rt, field);
-        say::text(rt, b", ");
-        say::number(rt, t.passing);
-        say::text(rt, b" can pass the check without it");
+    // The last line.
+    pub fn say(self, rt: &impl Print, files: u32, field: Option<&[u8]>) {
+        say::number(rt, files as u64);
+        say::text(rt, b" files, ");
+        say::number(rt, self.messages);
+        say::text(rt, b" messages, ");
+        say::number(rt, self.marked);
+        say::text(rt, b" may be incomplete");
+        if let Some(field) = field {
+            say::text(rt, b"; ");
+            say::number(rt, self.carrying);
+            say::text(rt, b" carry ");
+            say::text(rt, field);
+            say::text(rt, b", ");
+            say::number(rt, self.passing);
+            say::text(rt, b" can pass the check without it");
+        }
+        say::text(rt, b"\n");
     }
-    say::text(rt, b"\n");
 }

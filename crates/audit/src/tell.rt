@@ -1,18 +1,19 @@
 // What the lines of the listing are made of.
-use image::{full_name, rows};
+use image::full_name;
+use image::rows::Flat;
+use image::schema::Image;
+use image::shelf::File;
 use link::audit::{Carried, Mark};
-use names::name::Fronted;
 use shelf_io::say;
-use tokens::front_bytes;
+use tokens::front;
 
 // The full name of a message; the answer is its length. On a well-formed shelf none is longer than 512 bytes.
-pub fn tell_name(rt: &impl Print, image: &[u32], pool: &[u8], links: &[u32], m: u32) -> usize {
+pub fn tell_name(rt: &impl Print, file: &File, m: Flat) -> usize {
     let mut name = [0u8; 512];
-    let s = rows::read_sections(image);
-    let written = full_name::write_full_name(image, s, pool, links, m, &mut name);
-    match written {
-        Fronted::Written(n) => say::text(rt, front_bytes(&name, n)),
-        Fronted::TooShort => 0,
+    let image = Image::read(file.image, file.pool);
+    match full_name::write_full_name(&image, file.links, m.0, &mut name) {
+        Some(n) => say::text(rt, front(&name, n)),
+        None => 0,
     }
 }
 
@@ -36,16 +37,16 @@ fn tell_field(rt: &impl Print, number: u32, label: &[u8]) {
 }
 
 // What is carried under a name.
-pub fn tell_carried(rt: &impl Print, field: &[u8], c: Carried) {
+pub fn tell_carried(rt: &impl Print, field: &[u8], c: Option<Carried>) {
     say::text(rt, field);
     say::text(rt, b": ");
     match c {
-        Carried::Nothing => {
+        None => {
             say::text(rt, b"nothing");
         }
-        Carried::Required(number) => tell_field(rt, number, b"required"),
-        Carried::Optional(number) => tell_field(rt, number, b"optional"),
-        Carried::Repeated(number) => tell_field(rt, number, b"repeated"),
-        Carried::Map(number) => tell_field(rt, number, b"map"),
+        Some(Carried::Required(number)) => tell_field(rt, number, b"required"),
+        Some(Carried::Optional(number)) => tell_field(rt, number, b"optional"),
+        Some(Carried::Repeated(number)) => tell_field(rt, number, b"repeated"),
+        Some(Carried::Map(number)) => tell_field(rt, number, b"map"),
     }
 }

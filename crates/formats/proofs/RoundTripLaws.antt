@@ -9,6 +9,7 @@ use lib.Dec.{ltb, eqb}
 use lib.ListN.{length, get_or, take, drop, take-append-drop, length-append, length-drop}
 use lib.Seq.{ext_get_or, get_or-append-add, drop_at, drop-drop, take-add}
 use borrow.Author.Tests.{lt-ltb, ltb-true, eq-eqb, eqb-true}
+use Rattle.std.specs.Prelude.{Ok}
 use Rattle.lists.specs.Lists.{all, is_prefix_of, part, table, concat_map}
 use Rattle.lists.specs.Splice.{splice}
 use Rattle.lists.proofs.Cases.{left, right, clash}
@@ -19,8 +20,6 @@ use Rattle.formats.specs.Words.{byte_limit, word_limit, le32, in_bytes, word_of,
 use Rattle.formats.specs.Files.{Kind, image_kind, shelf_kind, version, file_of, shelf_file}
 use Rattle.formats.specs.Reading.{read_file}
 use Rattle.formats.specs.declared.file.Sizes.{Sizes}
-use Rattle.formats.specs.declared.file.FileRead.TheVariants.{Whole}
-use Rattle.formats.specs.declared.shelf_file.ShelfRead.TheVariants as shelf
 use Rattle.formats.specs.RoundTrip.{AllBelow, ImageReadBack, ShelfReadBack, ImageWrittenSo, ShelfWrittenSo}
 use Rattle.formats.proofs.WordLaws.{length-le32, length-in_bytes, length_words, get_d_words}
 use Rattle.formats.proofs.ReadLaws.{said_length, Sound, sound, asked_of, read_whole, read_verdict, read_sound, read_as_shelf, shelf_answer_lem}
@@ -117,7 +116,7 @@ module _ (k : Kind) (more ws bs words bytes : List ℕ) where
   read_back : length k.magic ≡ 8 → k.head ≡ 8 + length (head_of more ws bs) * 4 → AllBelow word_limit (head_of more ws bs) → AllBelow word_limit ws
       → length ws ≤ length words → length bs ≤ length bytes
       → read_file k (file_of k.magic (head_of more ws bs) ws bs) words bytes
-      ≡ record { answer = Whole (record { words = length ws; bytes = length bs }); words = splice words 0 ws; bytes = splice bytes 0 bs }
+      ≡ record { answer = Ok (record { words = length ws; bytes = length bs }); words = splice words 0 ws; bytes = splice bytes 0 bs }
   read_back m h a b hw hb =
       let file = file_of k.magic (head_of more ws bs) ws bs in
       let number = number_of_file k.magic (head_of more ws bs) ws bs m in
@@ -145,7 +144,7 @@ shelf_read_back files ws bs words bytes f a lw lb hw hb =
     let below : AllBelow word_limit numbers = simp (lt-ltb (length ws) word_limit lw, lt-ltb (length bs) word_limit lb, lt-ltb files word_limit f) in
     let count : word_at file 20 ≡ files = number_of_file shelf_kind.magic numbers ws bs refl 3 below (omega arith) in
     let e = read_back shelf_kind (files ∷ []) ws bs words bytes refl refl below a hw hb in
-    sym (read_as_shelf file words bytes (splice words 0 ws) (splice bytes 0 bs) (Whole sizes) (shelf.Whole (record { words = length ws; bytes = length bs; files = files })) (sym e) (rw count))
+    sym (read_as_shelf file words bytes (splice words 0 ws) (splice bytes 0 bs) (Ok sizes) (Ok (record { words = length ws; bytes = length bs; files = files })) (sym e) (rw count))
 
 -- ---- what is read was written so
 
@@ -193,7 +192,7 @@ front : (ws vs : List ℕ) (n : ℕ) → length vs ≡ n → take n (splice ws 0
 front ws vs n e = rw zero-add at (take-splice_end ws 0 vs n (omega arith) e)
 
 -- the words and the bytes that stand in a file that is read
-module _ (k : Kind) (file words bytes : List ℕ) (s : Sizes) (h : 12 ≤ k.head) (e : (read_file k file words bytes).answer ≡ Whole s) where
+module _ (k : Kind) (file words bytes : List ℕ) (s : Sizes) (h : 12 ≤ k.head) (e : (read_file k file words bytes).answer ≡ Ok s) where
   words_read : take s.words (read_file k file words bytes).words ≡ words_at file k.head s.words
   words_read =
       rw (← read_whole k file words bytes s h (read_verdict k file words bytes s h e))

@@ -7,6 +7,7 @@ use native.Mathlib.Numerals.{add-one}
 use native.Mathlib.Omega.{arith}
 use lib.ListN.{length, get_or, take, set, length-append}
 use lib.Seq.{take-suc, length-take-le}
+use Rattle.std.specs.Int.{w32, to_le_bytes}
 use Rattle.lists.specs.Lists.{concat_map}
 use Rattle.lists.specs.Splice.{splice}
 use Rattle.lists.proofs.SpanLaws.{concat-append}
@@ -15,6 +16,11 @@ use Rattle.lists.proofs.TableLaws.{length_table, get_or_table}
 use Rattle.formats.specs.Words.{le32, in_bytes, word_at, words_at}
 
 -- ---- lengths
+
+-- the library's word for the bytes of a word
+pub to_le_bytes-le32 : (n : ℕ) → to_le_bytes w32 n ≡ le32 n
+unfolding le32
+to_le_bytes-le32 n = refl
 
 pub length-le32 : (n : ℕ) → length (le32 n) ≡ 4
 unfolding le32

@@ -9,13 +9,13 @@ use lib.Dec.{leb}
 use lib.ListN.{length, take, length-append}
 use lib.Seq.{length-take-le}
 use borrow.Author.Tests.{le-leb, lt-leb, lt-ltb, le-ltb}
+use Rattle.std.specs.Prelude.{Some, None}
 use Rattle.lists.specs.Below.{all_of}
 use Rattle.lists.specs.Splice.{splice}
 use Rattle.lists.proofs.SpliceLaws.{splice-splice}
 use Rattle.formats.specs.Words.{word_limit, in_bytes}
 use Rattle.formats.specs.Files.{shelf_kind, version, file_of, image_file, shelf_file}
 use Rattle.formats.specs.Writing.{written, sayable, write_image, write_shelf}
-use Rattle.formats.specs.declared.file.Written.TheVariants.{Bytes, Nothing}
 use Rattle.formats.proofs.WordLaws.{length-in_bytes}
 
 -- where the words and the bytes of a file begin
@@ -55,36 +55,35 @@ module _ (magic numbers ws bs out : List ℕ) where
 
 -- ---- the whole outcome of writing
 
-pub write_short : (file out : List ℕ) → length out < length file → record { answer = Nothing; out = out } ≡ written true file out
+pub write_short : (file out : List ℕ) → length out < length file → record { answer = None; out = out } ≡ written true file out
 unfolding written
 write_short file out h = simp (lt-leb (length file) (length out) h)
 
 pub write_fits : (file out : List ℕ) (n : ℕ) (o : List ℕ) → length file ≤ length out → n ≡ length file → o ≡ splice out 0 file
-    → record { answer = Bytes n; out = o } ≡ written true file out
+    → record { answer = Some n; out = o } ≡ written true file out
 unfolding written
 write_fits file out n o h p q = simp (p, q, le-leb (length file) (length out) h)
 
 -- two conditions: the first fails, the second does, or both hold
 module _ (file out : List ℕ) (a b : Bool) where
-  first_fails : a ≡ false → record { answer = Nothing; out = out } ≡ written (all_of (a ∷ b ∷ [])) file out
-  unfolding written all_of
+  first_fails : a ≡ false → record { answer = None; out = out } ≡ written (all_of (a ∷ b ∷ [])) file out
+  unfolding written
   first_fails p = simp p
 
-  second_fails : a ≡ true → b ≡ false → record { answer = Nothing; out = out } ≡ written (all_of (a ∷ b ∷ [])) file out
-  unfolding written all_of
+  second_fails : a ≡ true → b ≡ false → record { answer = None; out = out } ≡ written (all_of (a ∷ b ∷ [])) file out
+  unfolding written
   second_fails p q = simp (p, q)
 
   both_hold : a ≡ true → b ≡ true → written true file out ≡ written (all_of (a ∷ b ∷ [])) file out
-  unfolding all_of
   both_hold p q = simp (p, q)
 
 module _ (ws pool out : List ℕ) where
-  pub many_words : word_limit ≤ length ws → record { answer = Nothing; out = out } ≡ write_image ws pool out
+  pub many_words : word_limit ≤ length ws → record { answer = None; out = out } ≡ write_image ws pool out
   unfolding write_image
   many_words h = first_fails (image_file ws pool) out (sayable (length ws)) (sayable (length pool)) (le-ltb (length ws) word_limit h)
 
   module _ (w : length ws < word_limit) where
-    pub many_bytes : word_limit ≤ length pool → record { answer = Nothing; out = out } ≡ write_image ws pool out
+    pub many_bytes : word_limit ≤ length pool → record { answer = None; out = out } ≡ write_image ws pool out
     unfolding write_image
     many_bytes h =
         second_fails (image_file ws pool) out (sayable (length ws)) (sayable (length pool))
@@ -97,13 +96,13 @@ module _ (ws pool out : List ℕ) where
         (lt-ltb (length ws) word_limit w) (lt-ltb (length pool) word_limit h)
 
 module _ (ws bs : List ℕ) (w b files : ℕ) (out : List ℕ) where
-  pub past_words : length ws < w → record { answer = Nothing; out = out } ≡ write_shelf ws bs w b files out
+  pub past_words : length ws < w → record { answer = None; out = out } ≡ write_shelf ws bs w b files out
   unfolding write_shelf
   past_words h =
       first_fails (shelf_file files (take w ws) (take b bs)) out (leb w (length ws)) (leb b (length bs)) (lt-leb w (length ws) h)
 
   module _ (hw : w ≤ length ws) where
-    pub past_bytes : length bs < b → record { answer = Nothing; out = out } ≡ write_shelf ws bs w b files out
+    pub past_bytes : length bs < b → record { answer = None; out = out } ≡ write_shelf ws bs w b files out
     unfolding write_shelf
     past_bytes h =
         second_fails (shelf_file files (take w ws) (take b bs)) out (leb w (length ws)) (leb b (length bs))

@@ -1,14 +1,12 @@
 -- What is written is read back the same, and what is read was written so. Assumes nothing.
-use Rattle.std.specs.Prelude.{◌≡◌, true, List, ℕ, ◌≤◌, ◌<◌, ltb, length, take}
+use Rattle.std.specs.Prelude.{◌≡◌, true, List, ℕ, ◌≤◌, ◌<◌, ltb, length, take, Ok}
 use Rattle.lists.specs.Lists.{all}
 use Rattle.lists.specs.Splice.{splice}
 use Rattle.formats.specs.Words.{word_limit, byte_limit}
 use Rattle.formats.specs.Files.{image_file, shelf_file}
 use Rattle.formats.specs.Reading.{read_image, read_shelf}
 use Rattle.formats.specs.declared.file.Sizes.{Sizes}
-use Rattle.formats.specs.declared.file.FileRead.TheVariants as image
 use Rattle.formats.specs.declared.shelf_file.ShelfSizes.{ShelfSizes}
-use Rattle.formats.specs.declared.shelf_file.ShelfRead.TheVariants as shelf
 
 -- every number of a list is below a limit
 abbrev pub AllBelow : ℕ → List ℕ → Type 0
@@ -25,7 +23,7 @@ ImageReadBack =
     → length pool ≤ length bytes
     → read_image (image_file ws pool) words bytes
     ≡ record {
-      answer = image.Whole (record { words = length ws; bytes = length pool });
+      answer = Ok (record { words = length ws; bytes = length pool });
       words = splice words 0 ws;
       bytes = splice bytes 0 pool;
     }
@@ -42,7 +40,7 @@ ShelfReadBack =
     → length bs ≤ length bytes
     → read_shelf (shelf_file files ws bs) words bytes
     ≡ record {
-      answer = shelf.Whole (record { words = length ws; bytes = length bs; files = files });
+      answer = Ok (record { words = length ws; bytes = length bs; files = files });
       words = splice words 0 ws;
       bytes = splice bytes 0 bs;
     }
@@ -52,12 +50,12 @@ abbrev pub ImageWrittenSo : Type 0
 ImageWrittenSo =
     (file words pool : List ℕ) (s : Sizes)
     → AllBelow byte_limit file
-    → (read_image file words pool).answer ≡ image.Whole s
+    → (read_image file words pool).answer ≡ Ok s
     → file ≡ image_file (take s.words (read_image file words pool).words) (take s.bytes (read_image file words pool).bytes)
 
 abbrev pub ShelfWrittenSo : Type 0
 ShelfWrittenSo =
     (file words bytes : List ℕ) (s : ShelfSizes)
     → AllBelow byte_limit file
-    → (read_shelf file words bytes).answer ≡ shelf.Whole s
+    → (read_shelf file words bytes).answer ≡ Ok s
     → file ≡ shelf_file s.files (take s.words (read_shelf file words bytes).words) (take s.bytes (read_shelf file words bytes).bytes)

@@ -1,22 +1,20 @@
 -- What writing a file does: its answer, and what the lent bytes then hold. Assumes nothing.
-use Rattle.std.specs.Prelude.{Bool, cond, ◌&&◌, List, [], ◌∷◌, ℕ, leb, ltb, length, take}
+use Rattle.std.specs.Prelude.{Bool, cond, ◌&&◌, List, [], ◌∷◌, ℕ, leb, ltb, length, take, Option, Some, None}
 use Rattle.lists.specs.Below.{all_of}
 use Rattle.lists.specs.Splice.{splice, has_room}
 use Rattle.formats.specs.Words.{word_limit}
 use Rattle.formats.specs.Files.{image_file, shelf_file}
-use Rattle.formats.specs.declared.file.Written.{Written}
-use Rattle.formats.specs.declared.file.Written.TheVariants.{Bytes, Nothing}
 
 pub record WriteOutcome : Type 0 where
-  pub answer : Written
+  pub answer : Option ℕ
   pub out : List ℕ
 
 -- a file that there can be is written whole to the front of `out` where it has room; else nothing is written
 unfoldable pub written : Bool → List ℕ → List ℕ → WriteOutcome
 written possible file out =
     cond (possible && has_room out file)
-    (record { answer = Bytes (length file); out = splice out 0 file })
-    (record { answer = Nothing; out = out })
+    (record { answer = Some (length file); out = splice out 0 file })
+    (record { answer = None; out = out })
 
 -- a file's head can say that there are so many words, or bytes
 abbrev pub sayable : ℕ → Bool

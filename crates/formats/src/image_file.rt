@@ -3,25 +3,20 @@ ghost use Rattle.std.specs.Prelude.{◌≡◌};
 ghost use Rattle.formats.specs.Reading.{read_image};
 ghost use Rattle.formats.specs.Writing.{write_image};
 
-use crate::file::{FileRead, Written, read_file, write_file};
+use crate::file::{Fault, IMAGE, Sizes, read_file, write_file};
 
-// Reads an image file to the front of `words` and `pool`.
-pub fn read_image(file: &[u8], words: &mut [u32], pool: &mut [u8]) -> FileRead
+// Reads an image file to the front of `words` and `pool`, and answers how much of them was filled; or a fault, and they are as they were.
+pub fn read_image(file: &[u8], words: &mut [u32], pool: &mut [u8]) -> Result<Sizes, Fault>
     ensures { record { answer = result; words = words.new; bytes = pool.new } ≡ read_image file.now words.old pool.old }
 {
-    read_file(file, b"NJUOLIMG", 20, words, pool)
+    read_file(file, IMAGE, words, pool)
 }
 
-// Writes an image file to the front of `out`.
-pub fn write_image(words: &[u32], pool: &[u8], out: &mut [u8]) -> Written
+// Writes an image file to the front of `out`, and answers how long it is; or nothing is written.
+pub fn write_image(words: &[u32], pool: &[u8], out: &mut [u8]) -> Option<usize>
     ensures { record { answer = result; out = out.new } ≡ write_image words.now pool.now out.old }
 {
-    if 4294967295 < words.len() {
-        return Written::Nothing;
-    }
-    if 4294967295 < pool.len() {
-        return Written::Nothing;
-    }
-    let numbers = [1, words.len() as u32, pool.len() as u32];
-    write_file(b"NJUOLIMG", &numbers, words, pool, out)
+    let word_count = u32::try_from(words.len()).ok()?;
+    let byte_count = u32::try_from(pool.len()).ok()?;
+    write_file(&IMAGE.magic, &[1, word_count, byte_count], words, pool, out)
 }

@@ -1,6 +1,6 @@
 // An image, and a shelf, as a file: written, read, and read back the same. docs/FORMATS.md describes both kinds.
 //
-// Below stand `names`, for bytes compared and copied, and the laws of `lists`. What the words of an image or a shelf mean is not looked at here.
+// Below stand the definitions and laws of `lists`. What the words of an image or a shelf mean is not looked at here.
 #![tactic(auto)]
 
 pub mod file;

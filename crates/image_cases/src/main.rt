@@ -33,19 +33,36 @@ fn text(rt: &impl Print, s: &[u8]) {
     let _ = rt.write_all(s);
 }
 
-fn answer(rt: &impl Print, label: &[u8], yes: bool) {
+// A line: what was asked about, and what was answered.
+fn answer(rt: &impl Print, label: &[u8], answered: &[u8]) {
     text(rt, label);
-    if yes {
-        text(rt, b": laid out\n");
+    text(rt, b": ");
+    text(rt, answered);
+    text(rt, b"\n");
+}
+
+// What rule 3 answers.
+fn layout_of(image: &[u32], pool_length: usize) -> &'static [u8] {
+    if layout::is_laid_out(image, pool_length) {
+        b"laid out"
     } else {
-        text(rt, b": refused, 3\n");
+        b"refused, 3"
+    }
+}
+
+// What rule 5 answers.
+fn texts_of(image: &[u32], pool: &[u8]) -> &'static [u8] {
+    if texts::are_texts_right(image, pool) {
+        b"texts in order"
+    } else {
+        b"refused, 5"
     }
 }
 
 // The image with one word changed.
 fn changed(at: usize, word: u32) -> [u32; 112] {
     let mut image = WORDS;
-    if at < 112 {
+    if at < image.len() {
         image[at] = word;
     }
     image
@@ -53,7 +70,7 @@ fn changed(at: usize, word: u32) -> [u32; 112] {
 
 fn show(rt: &impl Print, label: &[u8], at: usize, word: u32) {
     let image = changed(at, word);
-    answer(rt, label, layout::is_laid_out(&image, 2));
+    answer(rt, label, layout_of(&image, 2));
 }
 
 // Each message nested in the other: every row has one owner, and a parent stands higher than what is nested in it.
@@ -62,28 +79,16 @@ fn in_a_circle(rt: &impl Print) {
     image[106] = 0;
     image[19] = 0;
     image[20] = 1;
-    answer(
-        rt,
-        b"A nested in B, and B in A",
-        layout::is_laid_out(&image, 2),
-    );
+    answer(rt, b"A nested in B, and B in A", layout_of(&image, 2));
 }
 
 fn whole(rt: &impl Print) {
     let image = WORDS;
-    answer(rt, b"the image itself", layout::is_laid_out(&image, 2));
-    answer(
-        rt,
-        b"with a pool of 3 bytes",
-        layout::is_laid_out(&image, 3),
-    );
-    answer(rt, b"no words", layout::is_laid_out(&image[..0], 0));
-    answer(rt, b"23 words", layout::is_laid_out(&image[..23], 2));
-    answer(
-        rt,
-        b"all but the last word",
-        layout::is_laid_out(&image[..111], 2),
-    );
+    answer(rt, b"the image itself", layout_of(&image, 2));
+    answer(rt, b"with a pool of 3 bytes", layout_of(&image, 3));
+    answer(rt, b"no words", layout_of(&image[..0], 0));
+    answer(rt, b"23 words", layout_of(&image[..23], 2));
+    answer(rt, b"all but the last word", layout_of(&image[..111], 2));
 }
 
 fn trailer(rt: &impl Print) {
@@ -144,19 +149,10 @@ fn more_fields(rt: &impl Print) {
     show(rt, b"proto3_optional 2", 55, 2);
 }
 
-fn texts_answer(rt: &impl Print, label: &[u8], yes: bool) {
-    text(rt, label);
-    if yes {
-        text(rt, b": texts in order\n");
-    } else {
-        text(rt, b": refused, 5\n");
-    }
-}
-
 // The texts of the image with one word changed, over a pool of two bytes.
 fn show_texts(rt: &impl Print, label: &[u8], pool: &[u8], at: usize, word: u32) {
     let image = changed(at, word);
-    texts_answer(rt, label, texts::are_texts_right(&image, pool));
+    answer(rt, label, texts_of(&image, pool));
 }
 
 fn pools(rt: &impl Print) {

@@ -1,9 +1,10 @@
 // Images that stand at a limit of rule 4, or pass it: rows of one kind, nested messages, long texts and long full names. The pool is 600
 // bytes `a`; what keeps to the limits may then break a later rule, 5 or 8.
-use crate::{answers, say};
+use crate::answers;
+use shelf_io::say;
 
 // How many rows of each kind there are. The file owns enums and fields, its first message the oneofs, the first enum the values.
-#[derive(Clone, Copy)]
+#[derive(Clone, Copy, PartialEq, Eq)]
 struct Crowd {
     imports: u16,
     messages: u16,
@@ -14,7 +15,7 @@ struct Crowd {
 }
 
 // Where the sections start, and the trailer.
-#[derive(Clone, Copy)]
+#[derive(Clone, Copy, PartialEq, Eq)]
 struct Starts {
     messages: u32,
     enums: u32,
@@ -43,35 +44,23 @@ fn sections_of(c: Crowd) -> Starts {
 
 // Sets word k behind `start`.
 fn set(words: &mut [u32], start: u32, k: u32, word: u32) {
-    let at = start as usize + k as usize;
-    if at < words.len() {
-        words[at] = word;
-    }
+    tokens::set(words, start as usize + k as usize, word);
 }
 
 // Gives n rows of a section a name of one byte.
 fn name_rows(words: &mut [u32], start: u32, width: u8, n: u16) {
-    let mut at = start as usize + 1;
-    let mut left = n;
-    while 0 < left {
-        if words.len() <= at {
-            return;
-        }
-        words[at] = 1;
-        at += width as usize;
-        left -= 1;
+    for r in 0..n {
+        set(words, start, r as u32 * width as u32 + 1, 1);
     }
 }
 
 // Numbers the fields of a section; each is an optional int32.
 fn field_rows(words: &mut [u32], start: u32, n: u16) {
-    let mut r: u16 = 0;
-    while r < n {
+    for r in 0..n {
         let at = r as u32 * 16;
         set(words, start, at + 2, r as u32 + 1);
         set(words, start, at + 3, 1);
         set(words, start, at + 4, 5);
-        r += 1;
     }
 }
 
@@ -143,7 +132,7 @@ fn show(rt: &impl Print, label: &[u8], words: &[u32], trailer: u32) {
     let pool = [97u8; 600];
     let mut links = [0u32; 4096];
     let end = trailer as usize + 24;
-    let a = answers::answer_to(tokens::front_words(words, end), &pool, &mut links);
+    let a = answers::answer_to(tokens::front(words, end), &pool, &mut links);
     say::text(rt, label);
     say::text(rt, b": ");
     answers::say(rt, a);
@@ -185,54 +174,46 @@ fn crowds(rt: &impl Print) {
 }
 
 // Messages that stand in one another, the last with an enum: so many of them, the length of their names, of the last one's, of the
-// enum's (0: there is none) and of the package.
-#[derive(Clone, Copy)]
+// enum's, if there is one, and of the package.
+#[derive(Clone, Copy, PartialEq, Eq)]
 struct Chain {
     count: u16,
     name: u32,
     last: u32,
-    inner: u32,
+    inner: Option<u32>,
     package: u32,
 }
 
 // Nests each message of a chain in the one before.
 fn nest(words: &mut [u32], s: Starts, n: Chain) {
-    let mut r: u16 = 1;
-    while r < n.count {
+    for r in 1..n.count {
         let at = r as u32 * 14 - 14;
         set(words, s.messages, at + 1, n.name);
         set(words, s.messages, at + 2, r as u32);
         set(words, s.messages, at + 3, 1);
-        r += 1;
     }
-    set(words, s.messages, r as u32 * 14 - 13, n.last);
+    let messages = n.count.max(1) as u32;
+    set(words, s.messages, messages * 14 - 13, n.last);
     set(words, s.trailer, 4, n.package);
     set(words, s.trailer, 18, 1);
 }
 
 // Puts the one enum into the last message.
 fn put_inside(words: &mut [u32], s: Starts, n: Chain) {
-    if n.inner == 0 {
+    let Some(inner) = n.inner else {
         return;
-    }
+    };
     if n.count == 0 {
         return;
     }
     set(words, s.messages, n.count as u32 * 14 - 9, 1);
-    set(words, s.enums, 1, n.inner);
+    set(words, s.enums, 1, inner);
     set(words, s.trailer, 19, 0);
-}
-
-fn enums_of(n: Chain) -> u16 {
-    if n.inner == 0 {
-        return 0;
-    }
-    1
 }
 
 fn show_chain(rt: &impl Print, label: &[u8], n: Chain) {
     let mut words = [0u32; 1000];
-    let c = with(0, n.count, enums_of(n), 0, 0, 0);
+    let c = with(0, n.count, u16::from(n.inner.is_some()), 0, 0, 0);
     let s = sections_of(c);
     build(&mut words, c, s);
     nest(&mut words, s, n);
@@ -240,7 +221,7 @@ fn show_chain(rt: &impl Print, label: &[u8], n: Chain) {
     show(rt, label, &words, s.trailer);
 }
 
-fn nested(count: u16, name: u32, last: u32, inner: u32, package: u32) -> Chain {
+fn nested(count: u16, name: u32, last: u32, inner: Option<u32>, package: u32) -> Chain {
     Chain {
         count,
         name,
@@ -251,29 +232,37 @@ fn nested(count: u16, name: u32, last: u32, inner: u32, package: u32) -> Chain {
 }
 
 fn chains(rt: &impl Print) {
-    show_chain(rt, b"16 messages in one another", nested(16, 1, 1, 0, 0));
-    show_chain(rt, b"17 messages in one another", nested(17, 1, 1, 0, 0));
+    show_chain(rt, b"16 messages in one another", nested(16, 1, 1, None, 0));
+    show_chain(rt, b"17 messages in one another", nested(17, 1, 1, None, 0));
     show_chain(
         rt,
         b"16 messages, an enum in the last",
-        nested(16, 1, 1, 1, 0),
+        nested(16, 1, 1, Some(1), 0),
     );
-    show_chain(rt, b"a full name of 512 bytes", nested(6, 64, 58, 0, 128));
-    show_chain(rt, b"a full name of 513 bytes", nested(6, 64, 59, 0, 128));
+    show_chain(
+        rt,
+        b"a full name of 512 bytes",
+        nested(6, 64, 58, None, 128),
+    );
+    show_chain(
+        rt,
+        b"a full name of 513 bytes",
+        nested(6, 64, 59, None, 128),
+    );
     show_chain(
         rt,
         b"an enum's full name of 512 bytes",
-        nested(5, 64, 64, 58, 128),
+        nested(5, 64, 64, Some(58), 128),
     );
     show_chain(
         rt,
         b"an enum's full name of 513 bytes",
-        nested(5, 64, 64, 59, 128),
+        nested(5, 64, 64, Some(59), 128),
     );
-    show_chain(rt, b"a message name of 64 bytes", nested(1, 1, 64, 0, 0));
-    show_chain(rt, b"a message name of 65 bytes", nested(1, 1, 65, 0, 0));
-    show_chain(rt, b"a package of 128 bytes", nested(1, 1, 1, 0, 128));
-    show_chain(rt, b"a package of 129 bytes", nested(1, 1, 1, 0, 129));
+    show_chain(rt, b"a message name of 64 bytes", nested(1, 1, 64, None, 0));
+    show_chain(rt, b"a message name of 65 bytes", nested(1, 1, 65, None, 0));
+    show_chain(rt, b"a package of 128 bytes", nested(1, 1, 1, None, 128));
+    show_chain(rt, b"a package of 129 bytes", nested(1, 1, 1, None, 129));
 }
 
 // One row of every kind, with one word of it changed: word k of the section that starts at `start`. For a field, its type and whether

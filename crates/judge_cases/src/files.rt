@@ -1,55 +1,43 @@
 // The files of a list of cases. Each is judged by itself. Shelves stand among them.
-use crate::answers::Answer;
-use crate::{answers, say, shelves};
+use crate::{answers, shelves};
+use image::rows::Sections;
+use image::verdict::Verdict;
 use image::{links as link_rows, rows};
+use shelf_io::say;
 use tokens::Token;
 
 // Whether a refusal is one of those that are judged here.
 fn is_judged(number: u32) -> bool {
-    match number {
-        3..=5 | 8..=11 | 17 => true,
-        _ => false,
-    }
+    matches!(number, 3..=5 | 8..=11 | 17)
 }
 
-// The refusal that is expected, with its place, or number 0 where it is none of those judged here.
-fn expected(text: &[u8], t: Token) -> Answer {
-    let number = tokens::next(text, t.end);
-    let place = tokens::next(text, number.end);
-    let n = tokens::number(text, number);
-    if !is_judged(n) {
-        return answers::none();
-    }
-    Answer {
-        number: n,
-        place: tokens::number(text, place),
-    }
-}
-
-// Whether an answer is not the one that was wanted. A refusal that is not judged here comes before some of those that are, so it wants
-// none of them.
-fn differs(a: Answer, wanted: Answer) -> bool {
-    if wanted.number == 0 {
+// Whether an answer is not the refusal that stands behind the token `t`. One that is not judged here comes before some of those that are, so
+// it wants none of them.
+fn differs(text: &[u8], t: Token, answer: Verdict) -> bool {
+    let n = tokens::next(text, t.end);
+    let place = tokens::next(text, n.end);
+    let number = tokens::number(text, n);
+    if !is_judged(number) {
         return false;
     }
-    if a.number != wanted.number {
-        return true;
+    match answer {
+        Ok(()) => true,
+        Err(refused) => {
+            refused.refusal.number() != number || refused.place != tokens::number(text, place)
+        }
     }
-    a.place != wanted.place
 }
 
 // Whether a case says something else than was answered. Of a file in the domain it says that 3, 4, 5 and 8 are not given.
-fn is_unexpected(text: &[u8], t: Token, a: Answer) -> bool {
+fn is_unexpected(text: &[u8], t: Token, answer: Verdict) -> bool {
     if tokens::is(text, t, b"refused-at") {
-        return differs(a, expected(text, t));
+        return differs(text, t, answer);
     }
-    if !tokens::is(text, t, b"domain") {
-        return false;
-    }
-    let n = a.number;
-    match n {
-        3..=5 | 8 => true,
-        _ => false,
+    match answer {
+        Ok(()) => false,
+        Err(refused) => {
+            tokens::is(text, t, b"domain") && matches!(refused.refusal.number(), 3..=5 | 8)
+        }
     }
 }
 
@@ -65,11 +53,9 @@ fn behind_expected(text: &[u8], t: Token) -> usize {
 }
 
 fn say_links(rt: &impl Print, links: &[u32], n: usize) {
-    let mut i = 0;
-    while i < n {
+    for i in 0..n {
         say::text(rt, b" ");
         say::number(rt, rows::word_at(links, i) as u64);
-        i += 1;
     }
 }
 
@@ -79,9 +65,9 @@ fn judge(rt: &impl Print, text: &[u8], t: Token, image: &[u32], pool: &[u8]) {
     let a = answers::answer_to(image, pool, &mut links);
     say::text(rt, b"  ");
     answers::say(rt, a);
-    if a.number == 0 {
+    if a.is_ok() {
         say::text(rt, b":");
-        let n = link_rows::link_words(rows::read_sections(image));
+        let n = link_rows::link_words(Sections::read(image));
         say_links(rt, &links, n);
     }
     if is_unexpected(text, t, a) {
@@ -107,14 +93,14 @@ fn read_file(rt: &impl Print, text: &[u8], at: usize) -> usize {
         say::text(rt, b"  not read: a pool longer than 32,768 bytes\n");
         return expect.end;
     }
-    let middle = tokens::read_words(text, behind_expected(text, expect), &mut image, w);
-    let end = tokens::read_bytes(text, middle, &mut pool, b);
+    let middle = tokens::read(text, behind_expected(text, expect), &mut image, w);
+    let end = tokens::read(text, middle, &mut pool, b);
     judge(
         rt,
         text,
         expect,
-        tokens::front_words(&image, w),
-        tokens::front_bytes(&pool, b),
+        tokens::front(&image, w),
+        tokens::front(&pool, b),
     );
     end
 }
@@ -137,6 +123,7 @@ fn step(rt: &impl Print, text: &[u8], at: usize) -> usize {
     t.end
 }
 
+// All of it. Each step says where the next begins.
 pub fn run(rt: &impl Print, text: &[u8]) {
     let mut at = 0;
     while at < text.len() {

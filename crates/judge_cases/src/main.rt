@@ -6,36 +6,21 @@
 mod answers;
 mod crowds;
 mod files;
-mod say;
 mod shelves;
 
-use std::io::Read;
-
-// Reads until `out` is full, the input ends or a read fails, and answers how many bytes were read.
-fn read_full(input: &mut impl Read, out: &mut [u8]) -> usize {
-    let mut n = 0;
-    while n < out.len() {
-        let Ok(more) = input.read(&mut out[n..]) else {
-            return n;
-        };
-        if more == 0 {
-            return n;
-        }
-        n += more;
-    }
-    n
-}
+use shelf_io::files::read_full;
+use shelf_io::say;
 
 fn main(rt: HostRuntime) {
     let mut text = io::large_buffer();
     let n = read_full(&mut rt.reader(), &mut text);
-    if n == 65536 {
+    if n == text.len() {
         say::text(
             &rt,
             b"the list of cases is too long: at most 65,535 bytes are read\n",
         );
         return;
     }
-    files::run(&rt, tokens::front_bytes(&text, n));
+    files::run(&rt, tokens::front(&text, n));
     crowds::run(&rt);
 }

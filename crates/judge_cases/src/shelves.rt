@@ -5,9 +5,9 @@
 // and behind it changes of it, each of which is made, asked about and taken back:
 //
 //     "word" NAME PLACE VALUE | "byte" NAME PLACE VALUE | "used" NAME WORDS BYTES FILES
-use crate::say;
 use image::shelf::Used;
 use image::{rows, well_formed};
+use shelf_io::say;
 use tokens::Token;
 
 // Asks and says what was answered.
@@ -34,9 +34,9 @@ fn with_word(
     let value = tokens::next(text, place.end);
     let at = tokens::number(text, place) as usize;
     let was = rows::word_at(words, at);
-    tokens::set_word(words, at, tokens::number(text, value));
+    tokens::set(words, at, tokens::number(text, value));
     judge(rt, text, name, words, bytes, used);
-    tokens::set_word(words, at, was);
+    tokens::set(words, at, was);
     value.end
 }
 
@@ -52,18 +52,11 @@ fn with_byte(
     let place = tokens::next(text, name.end);
     let value = tokens::next(text, place.end);
     let at = tokens::number(text, place) as usize;
-    let was = byte_at(bytes, at);
-    tokens::set_byte(bytes, at, tokens::low_byte(tokens::number(text, value)));
+    let was = bytes.get(at).copied().unwrap_or(0);
+    tokens::set(bytes, at, tokens::low_byte(tokens::number(text, value)));
     judge(rt, text, name, words, bytes, used);
-    tokens::set_byte(bytes, at, was);
+    tokens::set(bytes, at, was);
     value.end
-}
-
-fn byte_at(bytes: &[u8], at: usize) -> u8 {
-    if at < bytes.len() {
-        return bytes[at];
-    }
-    0
 }
 
 // The shelf with other numbers.
@@ -80,7 +73,7 @@ fn with_numbers(rt: &impl Print, text: &[u8], name: Token, words: &[u32], bytes:
     f.end
 }
 
-// A change that starts at `at`; the answer is where it ends, or `at` where there is none.
+// A change that starts at `at`; the answer is where it ends, if there is one.
 fn change(
     rt: &impl Print,
     text: &[u8],
@@ -88,22 +81,22 @@ fn change(
     words: &mut [u32],
     bytes: &mut [u8],
     used: Used,
-) -> usize {
+) -> Option<usize> {
     let t = tokens::next(text, at);
     let name = tokens::next(text, t.end);
     if tokens::is(text, t, b"word") {
-        return with_word(rt, text, name, words, bytes, used);
+        return Some(with_word(rt, text, name, words, bytes, used));
     }
     if tokens::is(text, t, b"byte") {
-        return with_byte(rt, text, name, words, bytes, used);
+        return Some(with_byte(rt, text, name, words, bytes, used));
     }
     if tokens::is(text, t, b"used") {
-        return with_numbers(rt, text, name, words, bytes);
+        return Some(with_numbers(rt, text, name, words, bytes));
     }
-    at
+    None
 }
 
-// All changes that stand from `at` on; the answer is where they end.
+// All changes that stand from `at` on; the answer is where they end. Each says where the next begins.
 fn changes(
     rt: &impl Print,
     text: &[u8],
@@ -114,7 +107,9 @@ fn changes(
 ) -> usize {
     let mut end = at;
     while end < text.len() {
-        let next = change(rt, text, end, words, bytes, used);
+        let Some(next) = change(rt, text, end, words, bytes, used) else {
+            return end;
+        };
         if next <= end {
             return end;
         }
@@ -136,8 +131,8 @@ pub fn read_shelf(rt: &impl Print, text: &[u8], at: usize) -> usize {
         bytes: tokens::number(text, b),
         files: tokens::number(text, count),
     };
-    let middle = tokens::read_words(text, b.end, &mut words, used.words as usize);
-    let end = tokens::read_bytes(text, middle, &mut bytes, used.bytes as usize);
+    let middle = tokens::read(text, b.end, &mut words, used.words as usize);
+    let end = tokens::read(text, middle, &mut bytes, used.bytes as usize);
     judge(rt, text, name, &words, &bytes, used);
     changes(rt, text, end, &mut words, &mut bytes, used)
 }

@@ -1,6 +1,6 @@
 // The cases, one after the other, each on a shelf that is empty at its beginning.
 use crate::state::State;
-use crate::{files, say, state};
+use crate::{files, say};
 use tokens::Token;
 
 // A case starts. Words and bytes of the case before stay, since what is not used is no part of a shelf.
@@ -9,7 +9,7 @@ fn begin(rt: &impl Print, text: &[u8], t: Token) -> State {
     let count = tokens::next(text, name.end);
     say::text(rt, tokens::bytes_of(text, name));
     say::text(rt, b"\n");
-    state::empty(count.end, tokens::is(text, name, b"whole"))
+    State::empty(count.end, tokens::is(text, name, b"whole"))
 }
 
 // A line of two numbers, each with a text in front.
@@ -59,7 +59,7 @@ fn with_change(rt: &impl Print, text: &[u8], t: Token, mut s: State, words: &mut
     let place = tokens::number(text, p);
     let word = tokens::number(text, w);
     say_two(rt, b"  word ", place, b" of the shelf set to ", word);
-    tokens::set_word(words, place as usize, word);
+    tokens::set(words, place as usize, word);
     s.at = w.end;
     s
 }
@@ -86,8 +86,9 @@ fn step(rt: &impl Print, text: &[u8], mut s: State, words: &mut [u32], bytes: &m
     s
 }
 
+// All of it. Each step says where the next begins.
 pub fn run(rt: &impl Print, text: &[u8], words: &mut [u32], bytes: &mut [u8]) {
-    let mut s = state::empty(0, false);
+    let mut s = State::empty(0, false);
     while s.at < text.len() {
         let next = step(rt, text, s, words, bytes);
         if next.at <= s.at {

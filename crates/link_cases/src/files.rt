@@ -1,23 +1,12 @@
 // A file of a case: read, linked, and what was answered.
-ghost use Rattle.std.specs.Prelude.{◌≤◌};
-
 use crate::state::{Lent, SHELF_BYTES, SHELF_WORDS, State};
 use crate::{records, say};
+use image::schema::Image;
 use image::shelf::Used;
+use image::verdict::Refused;
 use link::link::Linked;
-use names::{bytes as texts, name};
 use tokens::heads::Expect;
 use tokens::{Token, heads};
-
-fn least(a: usize, b: usize) -> usize
-    ensures { (result ≤ a) × (result ≤ b) }
-{
-    if a < b { a } else { b }
-}
-
-fn most(a: usize, b: usize) -> usize {
-    if a < b { b } else { a }
-}
 
 // Links onto as much of the shelf as is lent.
 fn link_lent(
@@ -28,33 +17,15 @@ fn link_lent(
     pool: &[u8],
     lent: Lent,
 ) -> Linked {
-    let w = least(lent.words as usize, words.len());
-    let b = least(lent.bytes as usize, bytes.len());
+    let w = words.len().min(lent.words as usize);
+    let b = bytes.len().min(lent.bytes as usize);
     link::link::link(&mut words[..w], &mut bytes[..b], used, image, pool)
 }
 
-// Copies words, as far as there is room.
-fn copy_words(to: &mut [u32], from: &[u32]) {
-    let n = least(to.len(), from.len());
-    let mut i = 0;
-    while i < n {
-        to[i] = from[i];
-        i += 1;
-    }
-}
-
-fn same_words(a: &[u32], b: &[u32]) -> bool {
-    if a.len() != b.len() {
-        return false;
-    }
-    let mut i = 0;
-    while i < a.len() {
-        if a[i] != b[i] {
-            return false;
-        }
-        i += 1;
-    }
-    true
+// Copies items, as far as there is room.
+fn copy<T: Copy>(to: &mut [T], from: &[T]) {
+    let n = to.len().min(from.len());
+    to[..n].copy_from_slice(&from[..n]);
 }
 
 // Says so where words or bytes of the shelf are not as they were.
@@ -65,10 +36,10 @@ fn say_changes(
     words_before: &[u32],
     bytes_before: &[u8],
 ) {
-    if !same_words(words, tokens::front_words(words_before, words.len())) {
+    if words != tokens::front(words_before, words.len()) {
         say::text(rt, b" (words of the shelf have changed)");
     }
-    if !texts::same_bytes(bytes, tokens::front_bytes(bytes_before, bytes.len())) {
+    if bytes != tokens::front(bytes_before, bytes.len()) {
         say::text(rt, b" (bytes of the shelf have changed)");
     }
 }
@@ -83,11 +54,11 @@ fn say_accepted(rt: &impl Print, used: Used, after: Used) {
     say::text(rt, b")");
 }
 
-fn say_refused(rt: &impl Print, number: u32, place: u32) {
+fn say_refused(rt: &impl Print, refused: Refused) {
     say::text(rt, b"  refused ");
-    say::number(rt, number);
+    say::number(rt, refused.refusal.number());
     say::text(rt, b" at ");
-    say::number(rt, place);
+    say::number(rt, refused.place);
 }
 
 // Ends the line of an answer: a refusal's number and place, or number 0.
@@ -110,23 +81,22 @@ fn link_file(
 ) -> Used {
     let mut words_before = [0u32; SHELF_WORDS];
     let mut bytes_before = [0u8; SHELF_BYTES];
-    copy_words(&mut words_before, words);
-    name::put_front(&mut bytes_before, bytes);
+    copy(&mut words_before, words);
+    copy(&mut bytes_before, bytes);
     let used = s.used;
     let lent = s.lent;
     let linked = link_lent(words, bytes, used, image, pool, lent);
     match linked {
-        Linked::Accepted(after) => {
+        Ok(after) => {
             say_accepted(rt, used, after);
             end_line(rt, expect, 0, 0);
-            records::say_record(rt, words, image, pool, used, after, s.whole);
+            records::say_record(rt, words, &Image::read(image, pool), used, after, s.whole);
             after
         }
-        Linked::Refused(r, place) => {
-            let number = r.number();
-            say_refused(rt, number, place);
+        Err(refused) => {
+            say_refused(rt, refused);
             say_changes(rt, words, bytes, &words_before, &bytes_before);
-            end_line(rt, expect, number, place);
+            end_line(rt, expect, refused.refusal.number(), refused.place);
             used
         }
     }
@@ -146,15 +116,14 @@ pub fn read_file(
     let h = heads::head_of(text, t);
     let n = h.words as usize;
     let k = h.bytes as usize;
-    let middle = tokens::read_words(text, h.end, &mut image, n);
-    let end = tokens::read_bytes(text, middle, &mut pool, k);
-    let expect = h.expect;
+    let middle = tokens::read(text, h.end, &mut image, n);
+    let end = tokens::read(text, middle, &mut pool, k);
     let used = link_file(
         rt,
-        expect,
+        h.expect,
         s,
-        tokens::front_words(&image, most(n, s.lent.image as usize)),
-        tokens::front_bytes(&pool, k),
+        tokens::front(&image, n.max(s.lent.image as usize)),
+        tokens::front(&pool, k),
         words,
         bytes,
     );

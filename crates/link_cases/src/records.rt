@@ -1,30 +1,24 @@
 // The record of a file that was accepted: its link rows, each with its name.
 use crate::say;
-use image::rows::{Flat, Kind, Row, Sections};
+use image::rows::{Flat, Kind, Row};
+use image::schema::Image;
 use image::shelf::Used;
-use image::{full_name, links, rows, texts};
-use names::name::Fronted;
+use image::{full_name, links};
 
 // The full name of a message or an enum: the messages, then the enums.
-fn say_full_name(
-    rt: &impl Print,
-    image: &[u32],
-    s: Sections,
-    pool: &[u8],
-    links: &[u32],
-    item: u32,
-) {
+fn say_full_name(rt: &impl Print, image: &Image, links: &[u32], item: u32) {
     let mut name = [0u8; 512];
-    let written = full_name::write_full_name(image, s, pool, links, item, &mut name);
-    match written {
-        Fronted::Written(n) => say::quoted(rt, tokens::front_bytes(&name, n)),
-        Fronted::TooShort => say::text(rt, b"a name of more than 512 bytes"),
+    match full_name::write_full_name(image, links, item, &mut name) {
+        Some(n) => say::quoted(rt, tokens::front(&name, n)),
+        None => {
+            say::text(rt, b"a name of more than 512 bytes");
+        }
     }
 }
 
-fn say_message(rt: &impl Print, image: &[u32], s: Sections, pool: &[u8], links: &[u32], m: u32) {
+fn say_message(rt: &impl Print, image: &Image, links: &[u32], m: u32) {
     let row = links::message_link_row(links, Flat(m));
-    say_full_name(rt, image, s, pool, links, m);
+    say_full_name(rt, image, links, m);
     say::text(rt, b":");
     say::words(rt, &row);
     if row[8] == 1 {
@@ -36,29 +30,25 @@ fn say_message(rt: &impl Print, image: &[u32], s: Sections, pool: &[u8], links: 
 }
 
 // Where an enum stands among a file's messages and enums, or the greatest word where that is no word.
-fn enum_item(s: Sections, e: u32) -> u32 {
-    let n = rows::count_of(s, Kind::Message) as u64 + e as u64;
-    if 4294967295 < n {
-        return 4294967295;
-    }
-    n as u32
+fn enum_item(image: &Image, e: u32) -> u32 {
+    image.rows.sections.messages.count.saturating_add(e)
 }
 
-fn say_enum(rt: &impl Print, image: &[u32], s: Sections, pool: &[u8], links: &[u32], e: u32) {
-    let row = links::enum_link_row(image, s, pool, links, Flat(e));
-    say_full_name(rt, image, s, pool, links, enum_item(s, e));
+fn say_enum(rt: &impl Print, image: &Image, links: &[u32], e: u32) {
+    let row = links::enum_link_row(image, links, Flat(e));
+    say_full_name(rt, image, links, enum_item(image, e));
     say::text(rt, b":");
     say::words(rt, &row);
 }
 
 // A oneof's row has its message and its place there.
-fn say_oneof(rt: &impl Print, image: &[u32], s: Sections, pool: &[u8], links: &[u32], o: u32) {
-    let row = links::oneof_link_row(image, s, pool, links, Flat(o));
-    let own = rows::oneofs_of(image, s, links::message_row(links, Flat(row[0])));
-    say::quoted(
-        rt,
-        texts::text_of(image, pool, rows::nth_at(s, Kind::Oneof, own, row[1])),
-    );
+fn say_oneof(rt: &impl Print, image: &Image, links: &[u32], o: u32) {
+    let row = links::oneof_link_row(image, links, Flat(o));
+    let own = image
+        .rows
+        .oneofs_of(links::message_row(links, Flat(row[0])));
+    let at = image.rows.sections.nth_at(Kind::Oneof, own, row[1]);
+    say::quoted(rt, image.text_at(at));
     say::text(rt, b":");
     say::words(rt, &row);
 }
@@ -69,12 +59,9 @@ fn say_if(rt: &impl Print, yes: bool, note: &[u8]) {
     }
 }
 
-fn say_field(rt: &impl Print, image: &[u32], s: Sections, pool: &[u8], links: &[u32], f: u32) {
-    let row = links::field_link_row(image, s, pool, links, Flat(f));
-    say::quoted(
-        rt,
-        texts::text_of(image, pool, rows::row_at(s, Kind::Field, Row(row[0]))),
-    );
+fn say_field(rt: &impl Print, image: &Image, links: &[u32], f: u32) {
+    let row = links::field_link_row(image, links, Flat(f));
+    say::quoted(rt, image.name_of(Kind::Field, Row(row[0])));
     say::text(rt, b":");
     say::words(rt, &row);
     say_if(rt, row[1] == 1, b", extension");
@@ -86,35 +73,23 @@ fn say_field(rt: &impl Print, image: &[u32], s: Sections, pool: &[u8], links: &[
 }
 
 // The link row with that flat number.
-fn say_row(
-    rt: &impl Print,
-    image: &[u32],
-    s: Sections,
-    pool: &[u8],
-    links: &[u32],
-    kind: Kind,
-    flat: u32,
-) {
+fn say_row(rt: &impl Print, image: &Image, links: &[u32], kind: Kind, flat: u32) {
     match kind {
-        Kind::Message => say_message(rt, image, s, pool, links, flat),
-        Kind::Enum => say_enum(rt, image, s, pool, links, flat),
-        Kind::Oneof => say_oneof(rt, image, s, pool, links, flat),
-        _ => say_field(rt, image, s, pool, links, flat),
+        Kind::Message => say_message(rt, image, links, flat),
+        Kind::Enum => say_enum(rt, image, links, flat),
+        Kind::Oneof => say_oneof(rt, image, links, flat),
+        _ => say_field(rt, image, links, flat),
     }
 }
 
 // All link rows of a kind.
-fn say_rows(rt: &impl Print, label: &[u8], image: &[u32], pool: &[u8], links: &[u32], kind: Kind) {
-    let s = rows::read_sections(image);
-    let n = rows::count_of(s, kind);
-    let mut i: u32 = 0;
-    while i < n {
+fn say_rows(rt: &impl Print, label: &[u8], image: &Image, links: &[u32], kind: Kind) {
+    for i in 0..image.rows.sections.count_of(kind) {
         say::text(rt, label);
         say::number(rt, i);
         say::text(rt, b" ");
-        say_row(rt, image, s, pool, links, kind, i);
+        say_row(rt, image, links, kind, i);
         say::text(rt, b"\n");
-        i += 1;
     }
 }
 
@@ -122,18 +97,17 @@ fn say_rows(rt: &impl Print, label: &[u8], image: &[u32], pool: &[u8], links: &[
 pub fn say_record(
     rt: &impl Print,
     words: &[u32],
-    image: &[u32],
-    pool: &[u8],
+    image: &Image,
     used: Used,
     after: Used,
     whole: bool,
 ) {
-    let record = tokens::words_between(words, used.words as usize, after.words as usize);
-    let links = tokens::words_between(record, image.len(), record.len());
-    say_rows(rt, b"    message ", image, pool, links, Kind::Message);
-    say_rows(rt, b"    enum ", image, pool, links, Kind::Enum);
-    say_rows(rt, b"    oneof ", image, pool, links, Kind::Oneof);
-    say_rows(rt, b"    field ", image, pool, links, Kind::Field);
+    let record = tokens::between(words, used.words as usize, after.words as usize);
+    let links = tokens::between(record, image.rows.words.len(), record.len());
+    say_rows(rt, b"    message ", image, links, Kind::Message);
+    say_rows(rt, b"    enum ", image, links, Kind::Enum);
+    say_rows(rt, b"    oneof ", image, links, Kind::Oneof);
+    say_rows(rt, b"    field ", image, links, Kind::Field);
     if whole {
         say::text(rt, b"    the whole record:");
         say::words(rt, record);

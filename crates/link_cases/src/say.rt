@@ -1,9 +1,5 @@
 // What a line is made of.
-
-// What cannot be written is passed over.
-pub fn text(rt: &impl Print, s: &[u8]) {
-    let _ = rt.write_all(s);
-}
+pub use shelf_io::say::text;
 
 // A text in quotes.
 pub fn quoted(rt: &impl Print, s: &[u8]) {
@@ -13,15 +9,13 @@ pub fn quoted(rt: &impl Print, s: &[u8]) {
 }
 
 pub fn number(rt: &impl Print, n: u32) {
-    let _ = rt.print(n);
+    shelf_io::say::number(rt, n as u64);
 }
 
 // Words, a space in front of each.
 pub fn words(rt: &impl Print, row: &[u32]) {
-    let mut i = 0;
-    while i < row.len() {
+    for &word in row {
         text(rt, b" ");
-        number(rt, row[i]);
-        i += 1;
+        number(rt, word);
     }
 }

@@ -23,20 +23,22 @@ pub struct State {
     pub whole: bool,
 }
 
-// An empty shelf, all of which is lent, and images as they are.
-pub fn empty(at: usize, whole: bool) -> State {
-    State {
-        at,
-        used: Used {
-            words: 0,
-            bytes: 0,
-            files: 0,
-        },
-        lent: Lent {
-            words: 4294967295,
-            bytes: 4294967295,
-            image: 0,
-        },
-        whole,
+impl State {
+    // An empty shelf, all of which is lent, and images as they are.
+    pub fn empty(at: usize, whole: bool) -> State {
+        State {
+            at,
+            used: Used {
+                words: 0,
+                bytes: 0,
+                files: 0,
+            },
+            lent: Lent {
+                words: u32::MAX,
+                bytes: u32::MAX,
+                image: 0,
+            },
+            whole,
+        }
     }
 }

@@ -10,8 +10,10 @@
 mod kinds;
 mod queries;
 
+use image::shelf::Shelf;
+use queries::Asked;
 use shelf_io::arguments::count_words;
-use shelf_io::shelves::State;
+use shelf_io::shelves::Opened;
 use shelf_io::{say, shelves};
 use std::rt::{Env, Files};
 
@@ -24,11 +26,13 @@ fn run(rt: &(impl Env + Files + Print), words: &mut [u32], bytes: &mut [u8], fil
         return;
     }
     let opened = shelves::open_named(rt, 1, file, words, bytes);
-    let state = opened.state;
-    let places = opened.places;
-    if let State::Ready = state {
-        let used = opened.used;
-        queries::answer_all(rt, words, bytes, places, used);
+    if let Ok(Opened { used, places }) = opened {
+        let shelf = Shelf {
+            words,
+            bytes,
+            places,
+        };
+        queries::answer_all(rt, &Asked { shelf, used });
     }
 }
 

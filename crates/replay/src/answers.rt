@@ -1,16 +1,16 @@
 // The crate's answers.
-use names::bytes;
+use image::verdict::Refusal;
 use tokens::Token;
 
 // What the crate made of a file:
 // it accepts, with so many link words; it fails, with the error that stands for a refusal; it panics, and whether it then sought an enum's
-// default past a message or an enum of another name; or it was not asked, for a reason that is refused here with that number or a lower one.
+// default past a message or an enum of another name; or it was not asked, for a reason that is refused here so or with a lower number.
 #[derive(Clone, Copy)]
 pub enum Theirs {
     Accepted(u32),
-    Failed(u32),
+    Failed(Refusal),
     Panicked(bool),
-    Skipped(u32),
+    Skipped(Refusal),
     Unknown,
 }
 
@@ -27,31 +27,31 @@ fn says(text: &[u8], t: Token, comment: &[u8]) -> bool {
         start: t.end,
         end: text.len(),
     };
-    bytes::is_prefix_of(comment, tokens::bytes_of(text, behind))
+    tokens::bytes_of(text, behind).starts_with(comment)
 }
 
 fn failed(text: &[u8], t: Token) -> Theirs {
     if says(text, t, b" # Map entry message name must end with") {
-        return Theirs::Failed(9);
+        return Theirs::Failed(Refusal::EntryName);
     }
     if says(text, t, b" # Map entry message must have no extensions") {
-        return Theirs::Failed(10);
+        return Theirs::Failed(Refusal::EntryNotBare);
     }
     if says(
         text,
         t,
         b" # Map entry message must have two optional fields",
     ) {
-        return Theirs::Failed(11);
+        return Theirs::Failed(Refusal::EntryFields);
     }
     if says(text, t, b" # Could not parse default value for field ") {
-        return Theirs::Failed(12);
+        return Theirs::Failed(Refusal::DefaultWrong);
     }
     if says(text, t, b" # Message `") {
-        return Theirs::Failed(15);
+        return Theirs::Failed(Refusal::MessageMissing);
     }
     if says(text, t, b" # Non-unique field name: `") {
-        return Theirs::Failed(17);
+        return Theirs::Failed(Refusal::FieldClash);
     }
     Theirs::Unknown
 }
@@ -66,16 +66,16 @@ fn panicked(text: &[u8], t: Token) -> Theirs {
 
 fn skipped(text: &[u8], t: Token) -> Theirs {
     if says(text, t, b" # layout:") {
-        return Theirs::Skipped(3);
+        return Theirs::Skipped(Refusal::LayoutBroken);
     }
     if says(text, t, b" # text:") {
-        return Theirs::Skipped(5);
+        return Theirs::Skipped(Refusal::TextWrong);
     }
     if says(text, t, b" # name:") {
-        return Theirs::Skipped(6);
+        return Theirs::Skipped(Refusal::NameTaken);
     }
     if says(text, t, b" # import:") {
-        return Theirs::Skipped(7);
+        return Theirs::Skipped(Refusal::ImportMissing);
     }
     Theirs::Unknown
 }
@@ -119,6 +119,5 @@ pub fn word_count(theirs: Theirs) -> u32 {
 
 // Where the n words end that start at `at`.
 pub fn end_of_words(text: &[u8], at: usize, n: u32) -> usize {
-    let mut none = [0u32; 1];
-    tokens::read_words(text, at, &mut none, n as usize)
+    tokens::read::<u32>(text, at, &mut [], n as usize)
 }

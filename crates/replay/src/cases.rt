@@ -1,12 +1,12 @@
 // The cases, one after the other, each on a shelf that is empty at its beginning, and the answers beside them.
-use crate::state::State;
-use crate::{files, say, state, tally};
+use crate::state::{Lists, State};
+use crate::{files, say};
 use tokens::Token;
 
 // The cases cannot be read further: what is left of them stays.
-fn stop(rt: &impl Print, cases: &[u8], t: Token, s: State, why: &[u8]) -> State {
+fn stop(rt: &impl Print, lists: Lists, t: Token, s: State, why: &[u8]) -> State {
     say::text(rt, b"stopped at `");
-    say::text(rt, tokens::bytes_of(cases, t));
+    say::text(rt, tokens::bytes_of(lists.cases, t));
     say::text(rt, b"` (byte ");
     say::number(rt, t.start as u64);
     say::text(rt, b" of the cases): ");
@@ -16,7 +16,9 @@ fn stop(rt: &impl Print, cases: &[u8], t: Token, s: State, why: &[u8]) -> State 
 }
 
 // A case starts, in both lists. Words and bytes of the case before stay, since what is not used is no part of a shelf.
-fn begin(rt: &impl Print, cases: &[u8], answers: &[u8], t: Token, s: State) -> State {
+fn begin(rt: &impl Print, lists: Lists, t: Token, s: State) -> State {
+    let cases = lists.cases;
+    let answers = lists.answers;
     let name = tokens::next(cases, t.end);
     let count = tokens::next(cases, name.end);
     let files = tokens::number(cases, count);
@@ -24,61 +26,47 @@ fn begin(rt: &impl Print, cases: &[u8], answers: &[u8], t: Token, s: State) -> S
     let same_name = tokens::next(answers, u.end);
     let same_count = tokens::next(answers, same_name.end);
     if !tokens::is(answers, u, b"case") {
-        return stop(rt, cases, name, s, b"the answers have no case here");
+        return stop(rt, lists, name, s, b"the answers have no case here");
     }
     if !tokens::is(answers, same_name, tokens::bytes_of(cases, name)) {
-        return stop(rt, cases, name, s, b"the answers have another case here");
+        return stop(rt, lists, name, s, b"the answers have another case here");
     }
     if tokens::number(answers, same_count) != files {
         return stop(
             rt,
-            cases,
+            lists,
             name,
             s,
             b"the answers have other files of this case",
         );
     }
-    let mut counted = s.tally;
-    counted.cases = tally::more(counted.cases);
-    state::begin(count.end, same_count.end, name, files, counted)
+    State::begin(count.end, same_count.end, name, files, s.tally.with_case())
 }
 
 // What stands next: the start of a case where all files of the last were read, or else a file of it; or nothing.
-fn step(
-    rt: &impl Print,
-    cases: &[u8],
-    answers: &[u8],
-    s: State,
-    words: &mut [u32],
-    bytes: &mut [u8],
-) -> State {
+fn step(rt: &impl Print, lists: Lists, s: State, words: &mut [u32], bytes: &mut [u8]) -> State {
+    let cases = lists.cases;
     let t = tokens::next(cases, s.at);
     if t.start == t.end {
         return s;
     }
     if s.file < s.files {
         if tokens::is(cases, t, b"file") {
-            return files::read_file(rt, cases, answers, t, s, words, bytes);
+            return files::read_file(rt, lists, t, s, words, bytes);
         }
-        return stop(rt, cases, t, s, b"a file is missing");
+        return stop(rt, lists, t, s, b"a file is missing");
     }
     if tokens::is(cases, t, b"case") {
-        return begin(rt, cases, answers, t, s);
+        return begin(rt, lists, t, s);
     }
-    stop(rt, cases, t, s, b"here no case starts")
+    stop(rt, lists, t, s, b"here no case starts")
 }
 
-// All cases.
-fn run(
-    rt: &impl Print,
-    cases: &[u8],
-    answers: &[u8],
-    words: &mut [u32],
-    bytes: &mut [u8],
-) -> State {
-    let mut s = state::start();
-    while s.at < cases.len() {
-        let next = step(rt, cases, answers, s, words, bytes);
+// All cases. Each step says where the next begins.
+fn run(rt: &impl Print, lists: Lists, words: &mut [u32], bytes: &mut [u8]) -> State {
+    let mut s = State::start();
+    while s.at < lists.cases.len() {
+        let next = step(rt, lists, s, words, bytes);
         if next.at <= s.at {
             return s;
         }
@@ -94,19 +82,15 @@ fn is_at_end(text: &[u8], at: usize) -> bool {
 }
 
 // Whether the cases, the answers and the files of the last case were read to their ends.
-fn is_whole(cases: &[u8], answers: &[u8], s: State) -> bool {
-    if s.file != s.files {
-        return false;
-    }
-    is_at_end(cases, s.at) && is_at_end(answers, s.answer)
+fn is_whole(lists: Lists, s: State) -> bool {
+    s.file == s.files && is_at_end(lists.cases, s.at) && is_at_end(lists.answers, s.answer)
 }
 
 // Replays all cases, and says at the end what was counted, and whether anything was left.
-pub fn replay(rt: &impl Print, cases: &[u8], answers: &[u8], words: &mut [u32], bytes: &mut [u8]) {
-    let s = run(rt, cases, answers, words, bytes);
-    let counted = s.tally;
-    tally::say_tally(rt, counted);
-    if is_whole(cases, answers, s) {
+pub fn replay(rt: &impl Print, lists: Lists, words: &mut [u32], bytes: &mut [u8]) {
+    let s = run(rt, lists, words, bytes);
+    s.tally.say(rt);
+    if is_whole(lists, s) {
         say::text(rt, b"both lists were read to their ends\n");
     } else {
         say::text(rt, b"not all cases and answers were read\n");

@@ -1,119 +1,110 @@
 // A file of a case: read, linked, and held against the crate's answer.
 use crate::answers::Answer;
-use crate::judge::{Judged, Ours};
-use crate::state::State;
+use crate::judge::Judged;
+use crate::state::{Lists, State};
 use crate::tally::Tally;
-use crate::{answers, judge, say, tally, words};
+use crate::{answers, judge, say, words};
 use image::shelf::Used;
-use link::link::Linked;
+use image::verdict::Verdict;
 use tokens::heads::Expect;
 use tokens::{Token, heads};
 
-fn say_ours(rt: &impl Print, ours: Ours) {
-    if ours.number == 0 {
-        say::text(rt, b", ours is accepted\n");
-        return;
+fn say_ours(rt: &impl Print, ours: Verdict) {
+    match ours {
+        Ok(()) => {
+            say::text(rt, b", ours is accepted\n");
+        }
+        Err(refused) => {
+            say::text(rt, b", ours is refused ");
+            say::number(rt, refused.refusal.number() as u64);
+            say::text(rt, b" at ");
+            say::number(rt, refused.place as u64);
+            say::text(rt, b"\n");
+        }
     }
-    say::text(rt, b", ours is refused ");
-    say::number(rt, ours.number as u64);
-    say::text(rt, b" at ");
-    say::number(rt, ours.place as u64);
-    say::text(rt, b"\n");
 }
 
 // The file is done: the answers go on at `end`.
 fn done(mut s: State, end: usize, counted: Tally, judged: Judged) -> State {
     s.answer = end;
-    s.file = tally::more(s.file);
-    s.tally = tally::with_file(counted, judged);
+    s.file = s.file.saturating_add(1);
+    s.tally = counted.with_file(judged);
     s
 }
 
 // Both accept: the words decide.
 fn with_words(
     rt: &impl Print,
-    cases: &[u8],
-    answers: &[u8],
+    lists: Lists,
     a: Answer,
     s: State,
     image: &[u32],
     links: &[u32],
 ) -> State {
-    let theirs = a.theirs;
     let c = words::compare(
         rt,
-        cases,
-        answers,
+        lists,
         a.end,
-        answers::word_count(theirs),
+        answers::word_count(a.theirs),
         s,
         image,
         links,
     );
-    let mut t = s.tally;
-    t.words = tally::plus(t.words, c.equal);
-    t.undecided = tally::plus(t.undecided, c.undecided);
-    done(s, c.end, t, judge::by_words(c.different))
+    done(
+        s,
+        c.end,
+        s.tally.with_words(c.equal, c.undecided),
+        judge::by_words(c.different),
+    )
 }
 
 // No words are compared; those that the crate has are passed over.
 fn without_words(
     rt: &impl Print,
-    cases: &[u8],
-    answers: &[u8],
+    lists: Lists,
     a: Answer,
     s: State,
     judged: Judged,
-    ours: Ours,
+    ours: Verdict,
 ) -> State {
     if judge::is_difference(judged) {
-        say::file(rt, cases, s);
-        judge::say_difference(rt, judged);
+        say::file(rt, lists, s);
+        say::text(rt, judge::sentence(judged));
         say_ours(rt, ours);
     }
-    let theirs = a.theirs;
-    let t = s.tally;
-    done(
-        s,
-        answers::end_of_words(answers, a.end, answers::word_count(theirs)),
-        t,
-        judged,
-    )
+    let end = answers::end_of_words(lists.answers, a.end, answers::word_count(a.theirs));
+    done(s, end, s.tally, judged)
 }
 
 // Holds what is answered here against the crate's next answer.
 fn judge_file(
     rt: &impl Print,
-    cases: &[u8],
-    answers: &[u8],
+    lists: Lists,
     expect: Expect,
     mut s: State,
     image: &[u32],
     links: &[u32],
-    ours: Ours,
+    ours: Verdict,
 ) -> State {
-    let a = answers::next(answers, s.answer);
-    let theirs = a.theirs;
-    let shelves = s.shelves;
-    let judged = judge::judge(expect, theirs, ours, shelves);
-    s.shelves = judge::shelves_after(expect, theirs, ours.number, shelves);
+    let a = answers::next(lists.answers, s.answer);
+    let judged = judge::judge(expect, a.theirs, ours, s.shelves);
+    s.shelves = judge::shelves_after(expect, a.theirs, ours, s.shelves);
     match judged {
-        Judged::Words => with_words(rt, cases, answers, a, s, image, links),
-        _ => without_words(rt, cases, answers, a, s, judged, ours),
+        Judged::Words => with_words(rt, lists, a, s, image, links),
+        _ => without_words(rt, lists, a, s, judged, ours),
     }
 }
 
 // The link words of the record that reaches from the words used before to those used after, behind its image.
 fn links_of(shelf: &[u32], size: usize, used: Used, after: Used) -> &[u32] {
-    let record = tokens::words_between(shelf, used.words as usize, after.words as usize);
-    tokens::words_between(record, size, record.len())
+    let record = tokens::between(shelf, used.words as usize, after.words as usize);
+    tokens::between(record, size, record.len())
 }
 
 // Links a file. One that is refused leaves the three numbers as they were.
 fn link_file(
     rt: &impl Print,
-    cases: &[u8],
-    answers: &[u8],
+    lists: Lists,
     expect: Expect,
     s: State,
     image: &[u32],
@@ -124,38 +115,20 @@ fn link_file(
     let used = s.used;
     let linked = link::link::link(words, bytes, used, image, pool);
     match linked {
-        Linked::Accepted(after) => {
-            let ours = Ours {
-                number: 0,
-                place: 0,
-            };
+        Ok(after) => {
             let links = links_of(words, image.len(), used, after);
-            let mut next = judge_file(rt, cases, answers, expect, s, image, links, ours);
+            let mut next = judge_file(rt, lists, expect, s, image, links, Ok(()));
             next.used = after;
             next
         }
-        Linked::Refused(r, place) => {
-            let number = r.number();
-            let none = tokens::front_words(image, 0);
-            judge_file(
-                rt,
-                cases,
-                answers,
-                expect,
-                s,
-                image,
-                none,
-                Ours { number, place },
-            )
-        }
+        Err(refused) => judge_file(rt, lists, expect, s, image, &[], Err(refused)),
     }
 }
 
 // The file behind the token `t`. An image or a pool that is too long is cut where it is one word or byte too long.
 pub fn read_file(
     rt: &impl Print,
-    cases: &[u8],
-    answers: &[u8],
+    lists: Lists,
     t: Token,
     s: State,
     words: &mut [u32],
@@ -163,20 +136,18 @@ pub fn read_file(
 ) -> State {
     let mut image = [0u32; 65537];
     let mut pool = [0u8; 32769];
-    let h = heads::head_of(cases, t);
+    let h = heads::head_of(lists.cases, t);
     let n = h.words as usize;
     let k = h.bytes as usize;
-    let middle = tokens::read_words(cases, h.end, &mut image, n);
-    let end = tokens::read_bytes(cases, middle, &mut pool, k);
-    let expect = h.expect;
+    let middle = tokens::read(lists.cases, h.end, &mut image, n);
+    let end = tokens::read(lists.cases, middle, &mut pool, k);
     let mut next = link_file(
         rt,
-        cases,
-        answers,
-        expect,
+        lists,
+        h.expect,
         s,
-        tokens::front_words(&image, n),
-        tokens::front_bytes(&pool, k),
+        tokens::front(&image, n),
+        tokens::front(&pool, k),
         words,
         bytes,
     );

@@ -16,29 +16,15 @@ mod state;
 mod tally;
 mod words;
 
+use shelf_io::files::read_full;
+use state::Lists;
 use std::fs;
-use std::io::Read;
 use std::rt::Files;
 
 // Room for each list, and a byte more.
 const CASES_ROOM: usize = 600001;
 
 const ANSWERS_ROOM: usize = 200001;
-
-// Reads until `out` is full, the input ends or a read fails, and answers how many bytes were read.
-fn read_full(input: &mut impl Read, out: &mut [u8]) -> usize {
-    let mut n = 0;
-    while n < out.len() {
-        let Ok(more) = input.read(&mut out[n..]) else {
-            return n;
-        };
-        if more == 0 {
-            return n;
-        }
-        n += more;
-    }
-    n
-}
 
 // Reads a list, and answers how many bytes it has; 0 where there is none.
 fn read_list(rt: &impl Files, path: &str, list: &mut [u8]) -> usize {
@@ -66,11 +52,9 @@ fn main(rt: HostRuntime) {
     }
     let mut words = [0u32; state::SHELF_WORDS];
     let mut bytes = [0u8; state::SHELF_BYTES];
-    cases::replay(
-        &rt,
-        tokens::front_bytes(&cases, n),
-        tokens::front_bytes(&answers, k),
-        &mut words,
-        &mut bytes,
-    );
+    let lists = Lists {
+        cases: tokens::front(&cases, n),
+        answers: tokens::front(&answers, k),
+    };
+    cases::replay(&rt, lists, &mut words, &mut bytes);
 }

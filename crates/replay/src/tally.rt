@@ -4,7 +4,7 @@ use crate::say;
 
 // Every file is counted in one of `equal`, `expected`, `failed`, `outside`, `alone` and `differ`. `errors` counts those of `expected` on
 // which the crate fails with an error that stands for the same number.
-#[derive(Clone, Copy)]
+#[derive(Clone, Copy, Default)]
 pub struct Tally {
     pub cases: u32,
     pub files: u32,
@@ -19,78 +19,65 @@ pub struct Tally {
     pub differ: u32,
 }
 
-pub fn none() -> Tally {
-    Tally {
-        cases: 0,
-        files: 0,
-        equal: 0,
-        words: 0,
-        undecided: 0,
-        expected: 0,
-        errors: 0,
-        failed: 0,
-        outside: 0,
-        alone: 0,
-        differ: 0,
+impl Tally {
+    // A case more.
+    pub fn with_case(mut self) -> Tally {
+        self.cases = self.cases.saturating_add(1);
+        self
     }
-}
 
-// The sum, or the greatest number where it is no number.
-pub fn plus(a: u32, b: u32) -> u32 {
-    if 4294967295 - a < b {
-        return 4294967295;
+    // The words of a file more.
+    pub fn with_words(mut self, equal: u32, undecided: u32) -> Tally {
+        self.words = self.words.saturating_add(equal);
+        self.undecided = self.undecided.saturating_add(undecided);
+        self
     }
-    a + b
-}
 
-pub fn more(n: u32) -> u32 {
-    plus(n, 1)
-}
-
-// A file more, by how its answer was judged. Where words were compared, `Words` says that all of them are equal.
-pub fn with_file(mut t: Tally, judged: Judged) -> Tally {
-    t.files = more(t.files);
-    match judged {
-        Judged::Words => t.equal = more(t.equal),
-        Judged::Expected => t.expected = more(t.expected),
-        Judged::ExpectedError => {
-            t.expected = more(t.expected);
-            t.errors = more(t.errors);
+    // A file more, by how its answer was judged. Where words were compared, `Words` says that all of them are equal.
+    pub fn with_file(mut self, judged: Judged) -> Tally {
+        self.files = self.files.saturating_add(1);
+        match judged {
+            Judged::Words => self.equal = self.equal.saturating_add(1),
+            Judged::Expected => self.expected = self.expected.saturating_add(1),
+            Judged::ExpectedError => {
+                self.expected = self.expected.saturating_add(1);
+                self.errors = self.errors.saturating_add(1);
+            }
+            Judged::Failed => self.failed = self.failed.saturating_add(1),
+            Judged::Outside => self.outside = self.outside.saturating_add(1),
+            Judged::OutsideAccepted => self.alone = self.alone.saturating_add(1),
+            _ => self.differ = self.differ.saturating_add(1),
         }
-        Judged::Failed => t.failed = more(t.failed),
-        Judged::Outside => t.outside = more(t.outside),
-        Judged::OutsideAccepted => t.alone = more(t.alone),
-        _ => t.differ = more(t.differ),
+        self
     }
-    t
-}
 
-pub fn say_tally(rt: &impl Print, t: Tally) {
-    say::count(rt, t.cases, b" cases, ");
-    say::count(rt, t.files, b" files:\n  ");
-    say::count(rt, t.equal, b" accepted, as by the crate, with ");
-    say::count(rt, t.words, b" words equal (");
-    say::count(rt, t.undecided, b" more the crate does not decide)\n  ");
-    say::count(rt, t.expected, b" refused as the case expects (on ");
-    say::count(
-        rt,
-        t.errors,
-        b" of them the crate fails with an error for that number)\n  ",
-    );
-    say::count(
-        rt,
-        t.failed,
-        b" refused with the number that the crate's error stands for\n  ",
-    );
-    say::count(
-        rt,
-        t.outside,
-        b" refused outside the domain, as the rules allow\n  ",
-    );
-    say::count(
-        rt,
-        t.alone,
-        b" accepted here alone, where the crate panics over an enum's default or lacks such a file\n  ",
-    );
-    say::count(rt, t.differ, b" different\n");
+    pub fn say(self, rt: &impl Print) {
+        say::count(rt, self.cases, b" cases, ");
+        say::count(rt, self.files, b" files:\n  ");
+        say::count(rt, self.equal, b" accepted, as by the crate, with ");
+        say::count(rt, self.words, b" words equal (");
+        say::count(rt, self.undecided, b" more the crate does not decide)\n  ");
+        say::count(rt, self.expected, b" refused as the case expects (on ");
+        say::count(
+            rt,
+            self.errors,
+            b" of them the crate fails with an error for that number)\n  ",
+        );
+        say::count(
+            rt,
+            self.failed,
+            b" refused with the number that the crate's error stands for\n  ",
+        );
+        say::count(
+            rt,
+            self.outside,
+            b" refused outside the domain, as the rules allow\n  ",
+        );
+        say::count(
+            rt,
+            self.alone,
+            b" accepted here alone, where the crate panics over an enum's default or lacks such a file\n  ",
+        );
+        say::count(rt, self.differ, b" different\n");
+    }
 }

@@ -1,15 +1,13 @@
 // The link words of a file that both accept, one by one.
 ghost use Rattle.std.specs.Prelude.{◌<◌};
 
-use crate::state::State;
-use crate::tally::more;
+use crate::state::{Lists, State};
 use crate::{answers, say};
-use image::rows;
-use image::rows::Kind;
+use image::rows::{Kind, Sections};
 use tokens::Token;
 
 // Where the crate's words go on, and how many were equal, not decided and different.
-#[derive(Clone, Copy)]
+#[derive(Clone, Copy, Default)]
 pub struct Compared {
     pub end: usize,
     pub equal: u32,
@@ -29,7 +27,7 @@ fn say_row(rt: &impl Print, kind: &[u8], at: u64, width: u64)
 
 // How many words the rows of a kind have.
 fn row_words(image: &[u32], kind: Kind) -> u64 {
-    let n = rows::count_of(rows::read_sections(image), kind) as u64;
+    let n = Sections::read(image).count_of(kind) as u64;
     match kind {
         Kind::Message => n * 10,
         Kind::Enum => n * 2,
@@ -62,14 +60,14 @@ fn say_place(rt: &impl Print, image: &[u32], at: u64) {
 
 fn say_word(
     rt: &impl Print,
-    cases: &[u8],
+    lists: Lists,
     s: State,
     image: &[u32],
     at: usize,
     wanted: u32,
     given: u32,
 ) {
-    say::file(rt, cases, s);
+    say::file(rt, lists, s);
     say_place(rt, image, at as u64);
     say::text(rt, b": the crate gives ");
     say::number(rt, wanted as u64);
@@ -78,46 +76,39 @@ fn say_word(
     say::text(rt, b"\n");
 }
 
-// Counts the token `t`, a word of the crate's, where ours is `given`.
-fn with_word(answers: &[u8], t: Token, given: u32, mut c: Compared) -> Compared {
-    c.end = t.end;
+// The word that the token `t` says, or none where the crate does not decide it.
+fn decided(answers: &[u8], t: Token) -> Option<u32> {
     if tokens::is(answers, t, b"-") {
-        c.undecided = more(c.undecided);
-        return c;
+        return None;
     }
-    if tokens::number(answers, t) == given {
-        c.equal = more(c.equal);
-        return c;
-    }
-    c.different = more(c.different);
-    c
+    Some(tokens::number(answers, t))
 }
 
 // Holds the crate's words, from `at` on, against as many link words.
 fn compare_each(
     rt: &impl Print,
-    cases: &[u8],
-    answers: &[u8],
+    lists: Lists,
     at: usize,
     s: State,
     image: &[u32],
     links: &[u32],
 ) -> Compared {
-    let mut c = Compared {
-        end: at,
-        equal: 0,
-        undecided: 0,
-        different: 0,
-    };
-    let mut i = 0;
-    while i < links.len() {
-        let t = tokens::next(answers, c.end);
-        let next = with_word(answers, t, links[i], c);
-        if c.different < next.different {
-            say_word(rt, cases, s, image, i, tokens::number(answers, t), links[i]);
+    let mut c = Compared::default();
+    c.end = at;
+    for (i, &given) in links.iter().enumerate() {
+        let t = tokens::next(lists.answers, c.end);
+        match decided(lists.answers, t) {
+            None => c.undecided = c.undecided.saturating_add(1),
+            Some(wanted) => {
+                if wanted == given {
+                    c.equal = c.equal.saturating_add(1);
+                } else {
+                    c.different = c.different.saturating_add(1);
+                    say_word(rt, lists, s, image, i, wanted, given);
+                }
+            }
         }
-        c = next;
-        i += 1;
+        c.end = t.end;
     }
     c
 }
@@ -125,8 +116,7 @@ fn compare_each(
 // Holds the crate's n words, from `at` on, against the link words. Where they are not as many, all of them together are one difference.
 pub fn compare(
     rt: &impl Print,
-    cases: &[u8],
-    answers: &[u8],
+    lists: Lists,
     at: usize,
     n: u32,
     s: State,
@@ -134,16 +124,16 @@ pub fn compare(
     links: &[u32],
 ) -> Compared {
     if n as usize == links.len() {
-        return compare_each(rt, cases, answers, at, s, image, links);
+        return compare_each(rt, lists, at, s, image, links);
     }
-    say::file(rt, cases, s);
+    say::file(rt, lists, s);
     say::text(rt, b"the crate gives ");
     say::number(rt, n as u64);
     say::text(rt, b" words, ours are ");
     say::number(rt, links.len() as u64);
     say::text(rt, b"\n");
     Compared {
-        end: answers::end_of_words(answers, at, n),
+        end: answers::end_of_words(lists.answers, at, n),
         equal: 0,
         undecided: 0,
         different: 1,

@@ -2,25 +2,30 @@
 use mathlib.Core.Path.{◌≡◌, refl, sym, ap, ◌∙◌}
 use mathlib.Core.List.{List}
 use Prim.Native.Nat.{ℕ}
-use native.Mathlib.Omega.{arith}
 use lib.ListN.{length}
+use Rattle.std.specs.Prelude.{Result, Ok, Err}
 use Rattle.formats.specs.Files.{shelf_kind}
 use Rattle.formats.specs.Reading.{ReadOutcome, judged, filled, read_file, shelf_answer, read_shelf}
 use Rattle.formats.specs.declared.file.Fault.{Fault}
-use Rattle.formats.specs.declared.file.FileRead.{FileRead}
-use Rattle.formats.specs.declared.file.FileRead.TheVariants as stored
-use Rattle.formats.specs.declared.shelf_file.ShelfRead.{ShelfRead}
-use Rattle.formats.specs.declared.shelf_file.ShelfRead.TheVariants as shelved
+use Rattle.formats.specs.declared.file.Sizes.{Sizes}
+use Rattle.shelf_io.specs.declared.shelves.OpenError.{OpenError}
+use Rattle.shelf_io.specs.Opening.{Kept}
+use Rattle.formats.specs.declared.shelf_file.ShelfSizes.{ShelfSizes}
+
+-- whatever went wrong, where all is as it was no more is asked
+pub kept_as_it_was : {A : Type 0} (r : Result A OpenError) (words bytes w b : List ℕ) → (w ≡ words) × (b ≡ bytes) → Kept r words bytes w b
+kept_as_it_was (Ok a) words bytes w b h = tt
+kept_as_it_was (Err e) words bytes w b h = λ _. h
 
 module _ (file words bytes : List ℕ) where
   -- a file with a fault leaves all as it was
-  filled_unread : (r : FileRead) (f : Fault) → shelf_answer file (filled shelf_kind file words bytes r).answer ≡ shelved.Unread f
+  filled_unread : (r : Result Sizes Fault) (f : Fault) → shelf_answer file (filled shelf_kind file words bytes r).answer ≡ Err f
       → ((filled shelf_kind file words bytes r).words ≡ words) × ((filled shelf_kind file words bytes r).bytes ≡ bytes)
   unfolding filled
-  filled_unread (stored.Unread g) f e = (refl, refl)
-  filled_unread (stored.Whole s) f e = let z : ◌≡◌ {A = ℕ} 0 1 = cc in absurd (omega arith)
+  filled_unread (Err g) f e = (refl, refl)
+  filled_unread (Ok s) f e = absurd (cc)
 
-  pub unread_keeps : (after : ReadOutcome ShelfRead) (f : Fault) → after ≡ read_shelf file words bytes → after.answer ≡ shelved.Unread f
+  pub unread_keeps : (after : ReadOutcome (Result ShelfSizes Fault)) (f : Fault) → after ≡ read_shelf file words bytes → after.answer ≡ Err f
       → (after.words ≡ words) × (after.bytes ≡ bytes)
   unfolding read_file
   unread_keeps after f e u =

@@ -1,14 +1,6 @@
 -- How many bytes an answer counts. Assumes nothing.
 use Rattle.std.specs.Prelude.{ℕ, ◌-◌, ◌≤◌, ◌<◌}
 use Rattle.io.specs.Digits.{IsDigitCount}
-use Rattle.shelf_io.specs.declared.files.Loaded.{Loaded}
-use Rattle.shelf_io.specs.declared.files.Loaded.TheVariants.{Whole, TooLong, Unread}
-
--- those of a file that was read whole; none where it was not
-abbrev pub loaded_bytes : Loaded → ℕ
-loaded_bytes (Whole n) = n
-loaded_bytes TooLong = 0
-loaded_bytes (Unread cause) = 0
 
 -- a word is so long in decimal, read as a signed number: the fewest digits, behind a sign where it is below 0
 abbrev pub SignedLength : ℕ → ℕ → Type 0

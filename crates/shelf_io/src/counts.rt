@@ -5,8 +5,5 @@ ghost use Rattle.std.specs.Prelude.{◌≡◌, ◌+◌, min};
 pub fn one_more(n: u64) -> u64
     ensures { result ≡ min (n + 1) 18446744073709551615 }
 {
-    if n == 18446744073709551615 {
-        return n;
-    }
-    n + 1
+    n.saturating_add(1)
 }

@@ -1,13 +1,12 @@
 // Files by name: read whole, and stored whole or not at all.
-ghost use Rattle.std.specs.Prelude.{◌≤◌, length};
-ghost use Rattle.shelf_io.specs.Counts.{loaded_bytes};
+ghost use Rattle.std.specs.Prelude.{◌≤◌, length, IfOk};
 
-use names::name::put_front;
 use std::fs;
 use std::fs::{OpenFile, OpenOptions};
 use std::io::{Error, Read, Write};
 use std::rt::Files;
-use tokens::front_bytes;
+use std::str::Utf8Error;
+use tokens::front;
 
 // The numbers of the system's errors that have a cause of their own.
 const EPERM: i32 = 1;
@@ -30,7 +29,7 @@ const ENAMETOOLONG: i32 = 36;
 
 // Why the system did not do what it was asked. `NoText` is said of a path that is not UTF-8, by which no file is asked for; `Taken` of the
 // new file that is to take another's place; `Other` has the number that the system gave, or 0 where it gave none.
-#[derive(Clone, Copy)]
+#[derive(Clone, Copy, PartialEq, Eq)]
 pub enum Cause {
     Missing,
     Forbidden,
@@ -43,158 +42,145 @@ pub enum Cause {
     Other(u32),
 }
 
-// A file stands whole in front of the lent bytes, so many of them; or it fills them all, and may be longer; or it was not read.
-#[derive(Clone, Copy)]
-pub enum Loaded {
-    Whole(usize),
+// A file was not read whole: it fills all the bytes that were lent, and may be longer; or the system did not read it.
+#[derive(Clone, Copy, PartialEq, Eq)]
+pub enum LoadError {
     TooLong,
     Unread(Cause),
 }
 
-// A file was stored; or it did not fit into the bytes that were lent to make it; or the old one stands as it was.
-#[derive(Clone, Copy)]
-pub enum Stored {
-    Whole,
+// A file was not stored: it did not fit into the bytes that were lent to make it; or the old one stands as it was.
+#[derive(Clone, Copy, PartialEq, Eq)]
+pub enum StoreError {
     NoRoom,
     Unwritten(Cause),
 }
 
-// The cause that an error number of the system stands for.
-fn cause_of(error: i32) -> Cause {
-    if error == ENOENT {
-        return Cause::Missing;
-    }
-    if error == EACCES {
-        return Cause::Forbidden;
-    }
-    if error == EPERM {
-        return Cause::Forbidden;
-    }
-    if error == EROFS {
-        return Cause::Forbidden;
-    }
-    if error == EISDIR {
-        return Cause::Folder;
-    }
-    if error == ENOTDIR {
-        return Cause::NoFolder;
-    }
-    if error == ENAMETOOLONG {
-        return Cause::LongPath;
-    }
-    if error == EEXIST {
-        return Cause::Taken;
-    }
-    if error == ENOSPC {
-        return Cause::Full;
-    }
-    if error < 0 {
-        return Cause::Other(0);
-    }
-    Cause::Other(error as u32)
-}
-
 // Why a call failed.
-fn cause_from(error: Error) -> Cause {
-    match error.raw_os_error() {
-        Some(number) => cause_of(number),
-        None => Cause::Other(0),
+impl From<Error> for Cause {
+    fn from(error: Error) -> Cause {
+        match error.raw_os_error() {
+            Some(ENOENT) => Cause::Missing,
+            Some(EACCES | EPERM | EROFS) => Cause::Forbidden,
+            Some(EISDIR) => Cause::Folder,
+            Some(ENOTDIR) => Cause::NoFolder,
+            Some(ENAMETOOLONG) => Cause::LongPath,
+            Some(EEXIST) => Cause::Taken,
+            Some(ENOSPC) => Cause::Full,
+            Some(number) => Cause::Other(u32::try_from(number).unwrap_or(0)),
+            None => Cause::Other(0),
+        }
     }
 }
 
-// Reads to the front of `out` until the file ends.
-fn read_to_end(file: &mut impl Read, out: &mut [u8]) -> Loaded
-    ensures { loaded_bytes result ≤ length out.new }
+impl From<Utf8Error> for Cause {
+    fn from(_error: Utf8Error) -> Cause {
+        Cause::NoText
+    }
+}
+
+impl From<Cause> for LoadError {
+    fn from(cause: Cause) -> LoadError {
+        LoadError::Unread(cause)
+    }
+}
+
+impl From<Error> for LoadError {
+    fn from(error: Error) -> LoadError {
+        LoadError::Unread(Cause::from(error))
+    }
+}
+
+// Reads to the front of `out` until the file ends. Each read says how many bytes it gave.
+fn read_to_end(file: &mut impl Read, out: &mut [u8]) -> Result<usize, LoadError>
+    ensures { IfOk result (λ n. n ≤ length out.new) }
 {
     let mut n = 0;
     while n < out.len() {
-        let got = file.read(&mut out[n..]);
-        match got {
-            Err(error) => return Loaded::Unread(cause_from(error)),
-            Ok(more) => {
-                if more == 0 {
-                    return Loaded::Whole(n);
-                }
-                n += more;
-            }
+        let more = file.read(&mut out[n..])?;
+        if more == 0 {
+            return Ok(n);
         }
+        n += more;
     }
-    Loaded::TooLong
+    Err(LoadError::TooLong)
 }
 
-// Reads a file to the front of `out`, which is longer than the longest file that is wanted.
-pub fn read_whole(rt: &impl Files, path: &[u8], out: &mut [u8]) -> Loaded
-    ensures { loaded_bytes result ≤ length out.new }
+// Reads until `out` is full, the input ends or a read fails, and answers how many bytes were read. Each read says how many it gave.
+pub fn read_full(input: &mut impl Read, out: &mut [u8]) -> usize
+    ensures { result ≤ length out.new }
 {
-    // The system takes no longer path, and a word that was cut may have lost a part of its last letter.
+    let mut n = 0;
+    while n < out.len() {
+        let Ok(more) = input.read(&mut out[n..]) else {
+            return n;
+        };
+        if more == 0 {
+            return n;
+        }
+        n += more;
+    }
+    n
+}
+
+// The file that a path names. The system takes no longer path, and a word that was cut may have lost a part of its last letter.
+fn name_of(path: &[u8]) -> Result<&str, Cause> {
     if 4095 < path.len() {
-        return Loaded::Unread(Cause::LongPath);
+        return Err(Cause::LongPath);
     }
-    let Ok(name) = str::from_utf8(path) else {
-        return Loaded::Unread(Cause::NoText);
-    };
-    let opened = fs::open(rt, name);
-    match opened {
-        Err(error) => Loaded::Unread(cause_from(error)),
-        Ok(mut file) => read_to_end(&mut file, out),
-    }
+    Ok(str::from_utf8(path)?)
+}
+
+// Reads a file to the front of `out`, which is longer than the longest file that is wanted, and answers how many bytes it has.
+pub fn read_whole(rt: &impl Files, path: &[u8], out: &mut [u8]) -> Result<usize, LoadError>
+    ensures { IfOk result (λ n. n ≤ length out.new) }
+{
+    let name = name_of(path)?;
+    let mut file = fs::open(rt, name)?;
+    read_to_end(&mut file, out)
 }
 
 // Writes to a new file, and waits until that has reached its device.
-fn write_out(file: &mut (impl Write + OpenFile), contents: &[u8]) -> Stored {
-    if let Err(error) = file.write_all(contents) {
-        return Stored::Unwritten(cause_from(error));
-    }
-    if let Err(error) = file.sync_all() {
-        return Stored::Unwritten(cause_from(error));
-    }
-    Stored::Whole
+fn write_out(file: &mut (impl Write + OpenFile), contents: &[u8]) -> Result<(), Cause> {
+    file.write_all(contents)?;
+    file.sync_all()?;
+    Ok(())
 }
 
 // Makes a file that was not there, or none.
-fn write_new(rt: &impl Files, path: &str, contents: &[u8]) -> Stored {
-    let made = OpenOptions::new()
+fn write_new(rt: &impl Files, path: &str, contents: &[u8]) -> Result<(), Cause> {
+    let mut file = OpenOptions::new()
         .write(true)
         .create_new(true)
-        .open(rt, path);
-    let stored = match made {
-        Err(error) => return Stored::Unwritten(cause_from(error)),
-        Ok(mut file) => write_out(&mut file, contents),
-    };
-    if let Stored::Unwritten(_) = stored {
+        .open(rt, path)?;
+    let stored = write_out(&mut file, contents);
+    drop(file);
+    if stored.is_err() {
         let _ = fs::remove_file(rt, path);
     }
     stored
 }
 
 // Makes the file `fresh`, which then takes the name `path`.
-fn replace(rt: &impl Files, path: &[u8], fresh: &[u8], contents: &[u8]) -> Stored {
-    let Ok(path) = str::from_utf8(path) else {
-        return Stored::Unwritten(Cause::NoText);
-    };
-    let Ok(fresh) = str::from_utf8(fresh) else {
-        return Stored::Unwritten(Cause::NoText);
-    };
-    let stored = write_new(rt, fresh, contents);
-    if let Stored::Unwritten(_) = stored {
-        return stored;
-    }
+fn replace(rt: &impl Files, path: &[u8], fresh: &[u8], contents: &[u8]) -> Result<(), Cause> {
+    let path = str::from_utf8(path)?;
+    let fresh = str::from_utf8(fresh)?;
+    write_new(rt, fresh, contents)?;
     if let Err(error) = fs::rename(rt, fresh, path) {
-        let cause = cause_from(error);
         let _ = fs::remove_file(rt, fresh);
-        return Stored::Unwritten(cause);
+        return Err(Cause::from(error));
     }
-    stored
+    Ok(())
 }
 
 // Stores a file whole or not at all: it is written beside the old one, with `.new` behind its name, and then takes the old one's place.
-pub(crate) fn store_whole(rt: &impl Files, path: &[u8], contents: &[u8]) -> Stored {
+pub(crate) fn store_whole(rt: &impl Files, path: &[u8], contents: &[u8]) -> Result<(), Cause> {
     let mut fresh = io::buffer();
     let n = path.len();
     if 4091 < n {
-        return Stored::Unwritten(Cause::LongPath);
+        return Err(Cause::LongPath);
     }
-    put_front(&mut fresh, path);
-    put_front(&mut fresh[n..], b".new");
-    replace(rt, path, front_bytes(&fresh, n + 4), contents)
+    fresh[..n].copy_from_slice(path);
+    fresh[n..n + 4].copy_from_slice(b".new");
+    replace(rt, path, front(&fresh, n + 4), contents)
 }

@@ -4,7 +4,7 @@ ghost use Rattle.std.specs.Prelude.{◌≡◌, ◌-◌, ◌≤◌, min, max, len
 ghost use Rattle.io.specs.Digits.{IsDigitCount};
 ghost use Rattle.shelf_io.specs.Counts.{SignedLength};
 
-use tokens::front_bytes;
+use tokens::front;
 
 // A text as it is. What cannot be written is passed over.
 pub fn text(rt: &impl Print, s: &[u8]) -> usize
@@ -40,8 +40,5 @@ pub fn spaces(rt: &impl Print, at: usize, column: usize) -> usize
     ensures { result ≡ min (max 1 (column - at)) 64 }
 {
     let blank = [32u8; 64];
-    if column <= at {
-        return text(rt, b" ");
-    }
-    text(rt, front_bytes(&blank, column - at))
+    text(rt, front(&blank, column.saturating_sub(at).max(1)))
 }

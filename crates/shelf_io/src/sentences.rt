@@ -1,12 +1,13 @@
-// What went wrong, in words. Each function answers how many bytes it handed to standard output.
-ghost use Rattle.std.specs.Prelude.{◌≤◌};
+// What went wrong, in words. Each function answers how many bytes it handed to standard output, and promises a bound. `Display` would tell no
+// bound, so the errors print by these.
+ghost use Rattle.std.specs.Prelude.{◌≤◌, length, IfSome};
 
-use crate::files::{Cause, Stored};
+use crate::files::{Cause, StoreError};
 use crate::say;
-use crate::shelves::State;
+use crate::shelves::OpenError;
 use formats::file::Fault;
-use image::verdict::Refusal;
-use tokens::front_bytes;
+use image::verdict::{Refusal, Refused};
+use tokens::front;
 
 // Why a file was not read or stored.
 fn tell_cause(rt: &impl Print, c: Cause) -> usize
@@ -45,75 +46,61 @@ pub fn tell_fault(rt: &impl Print, f: Fault) -> usize
 }
 
 // What a refusal says.
-fn reason(rt: &impl Print, r: Refusal) -> usize
-    ensures { result ≤ 100 }
+fn reason(r: Refusal) -> &'static [u8]
+    ensures { length result.now ≤ 100 }
 {
     match r {
-        Refusal::TooLong => say::text(rt, b"the shelf or the image is longer than its limit"),
-        Refusal::ShelfBroken => say::text(rt, b"the shelf is not well formed"),
-        Refusal::LayoutBroken => say::text(rt, b"the image breaks a layout rule"),
-        Refusal::LimitPassed => say::text(
-            rt,
-            b"a count, depth or text limit is passed, or 32 files are shelved",
-        ),
-        Refusal::TextWrong => say::text(rt, b"a text breaks its byte rule"),
-        Refusal::NameTaken => say::text(rt, b"a file of that name is on the shelf"),
-        Refusal::ImportMissing => say::text(rt, b"an import is not on the shelf"),
-        Refusal::NameShared => say::text(
-            rt,
-            b"two messages or enums of the file share a full name",
-        ),
-        Refusal::EntryName => say::text(rt, b"a map entry's name does not end in Entry"),
-        Refusal::EntryNotBare => say::text(
-            rt,
+        Refusal::TooLong => b"the shelf or the image is longer than its limit",
+        Refusal::ShelfBroken => b"the shelf is not well formed",
+        Refusal::LayoutBroken => b"the image breaks a layout rule",
+        Refusal::LimitPassed => b"a count, depth or text limit is passed, or 32 files are shelved",
+        Refusal::TextWrong => b"a text breaks its byte rule",
+        Refusal::NameTaken => b"a file of that name is on the shelf",
+        Refusal::ImportMissing => b"an import is not on the shelf",
+        Refusal::NameShared => b"two messages or enums of the file share a full name",
+        Refusal::EntryName => b"a map entry's name does not end in Entry",
+        Refusal::EntryNotBare =>
             b"a map entry has extensions, extension ranges, nested messages or enums",
-        ),
-        Refusal::EntryFields => say::text(
-            rt,
+        Refusal::EntryFields =>
             b"a map entry's fields are not key = 1 and value = 2, in that order, both optional",
-        ),
-        Refusal::DefaultWrong => say::text(
-            rt,
-            b"a default cannot be read, or is one of a message or a group",
-        ),
-        Refusal::DefaultBarred => say::text(
-            rt,
-            b"defaults of double, float and bytes are not read",
-        ),
-        Refusal::ExtendeeAbsent => say::text(rt, b"an extension at file level extends nothing"),
-        Refusal::MessageMissing => say::text(rt, b"a message or an extendee is not found"),
-        Refusal::EnumMissing => say::text(rt, b"an enum is not found"),
-        Refusal::FieldClash => say::text(
-            rt,
-            b"its number, name or JSON name clashes with an earlier field's",
-        ),
-        Refusal::NoRoom => say::text(rt, b"the shelf has no room for the record"),
+        Refusal::DefaultWrong => b"a default cannot be read, or is one of a message or a group",
+        Refusal::DefaultBarred => b"defaults of double, float and bytes are not read",
+        Refusal::ExtendeeAbsent => b"an extension at file level extends nothing",
+        Refusal::MessageMissing => b"a message or an extendee is not found",
+        Refusal::EnumMissing => b"an enum is not found",
+        Refusal::FieldClash => b"its number, name or JSON name clashes with an earlier field's",
+        Refusal::NoRoom => b"the shelf has no room for the record",
     }
 }
 
-// What a refusal's place counts, nothing where it has none.
-fn place_of(rt: &impl Print, r: Refusal) -> usize
-    ensures { result ≤ 20 }
+// What a refusal's place counts, if it has one.
+fn counted_by(r: Refusal) -> Option<&'static [u8]>
+    ensures { IfSome result (λ label. length label.now ≤ 20) }
 {
-    let number = r.number();
-    match number {
-        7 => say::text(rt, b", import row "),
-        9..=11 => say::text(rt, b", message "),
-        12..=17 => say::text(rt, b", field "),
-        _ => 0,
+    match r {
+        Refusal::ImportMissing => Some(b", import row "),
+        Refusal::EntryName | Refusal::EntryNotBare | Refusal::EntryFields => Some(b", message "),
+        Refusal::DefaultWrong
+        | Refusal::DefaultBarred
+        | Refusal::ExtendeeAbsent
+        | Refusal::MessageMissing
+        | Refusal::EnumMissing
+        | Refusal::FieldClash => Some(b", field "),
+        _ => None,
     }
 }
 
 // A refusal: its number, its place where it has one, and what it says.
-pub fn tell_refusal(rt: &impl Print, r: Refusal, place: u32) -> usize
+pub fn tell_refusal(rt: &impl Print, refused: Refused) -> usize
     ensures { result ≤ 200 }
 {
+    let r = refused.refusal;
     let n = say::text(rt, b"refused ") + say::number(rt, r.number() as u64);
-    let k = place_of(rt, r);
-    if k == 0 {
-        return n + say::text(rt, b": ") + reason(rt, r);
-    }
-    n + k + say::number(rt, place as u64) + say::text(rt, b": ") + reason(rt, r)
+    let k = match counted_by(r) {
+        Some(label) => say::text(rt, label) + say::number(rt, refused.place as u64),
+        None => 0,
+    };
+    n + k + say::text(rt, b": ") + say::text(rt, reason(r))
 }
 
 // Why a file was not read.
@@ -133,24 +120,24 @@ fn tell_no_shelf(rt: &impl Print, f: Fault) -> usize
 }
 
 // What opening a shelf file came to.
-fn tell_state(rt: &impl Print, s: State) -> usize
+fn tell_state(rt: &impl Print, state: Result<(), OpenError>) -> usize
     ensures { result ≤ 100 }
 {
-    match s {
-        State::Ready => say::text(rt, b"a well-formed shelf"),
-        State::Unread(c) => tell_unread(rt, c),
-        State::NoShelf(f) => tell_no_shelf(rt, f),
-        State::Broken => say::text(rt, b"a shelf file whose shelf is not well formed"),
+    match state {
+        Ok(()) => say::text(rt, b"a well-formed shelf"),
+        Err(OpenError::Unread(c)) => tell_unread(rt, c),
+        Err(OpenError::NoShelf(f)) => tell_no_shelf(rt, f),
+        Err(OpenError::Broken) => say::text(rt, b"a shelf file whose shelf is not well formed"),
     }
 }
 
 // What opening a shelf file came to, as a line. The answer counts what stands behind the path.
-pub fn tell_shelf(rt: &impl Print, path: &[u8], s: State) -> usize
+pub fn tell_shelf(rt: &impl Print, path: &[u8], state: Result<(), OpenError>) -> usize
     ensures { result ≤ 110 }
 {
     say::text(rt, path);
     let n = say::text(rt, b": ");
-    n + tell_state(rt, s) + say::text(rt, b"\n")
+    n + tell_state(rt, state) + say::text(rt, b"\n")
 }
 
 fn tell_unwritten(rt: &impl Print, c: Cause) -> usize
@@ -161,13 +148,13 @@ fn tell_unwritten(rt: &impl Print, c: Cause) -> usize
 }
 
 // What storing a file came to.
-pub fn tell_stored(rt: &impl Print, s: Stored) -> usize
+pub fn tell_stored(rt: &impl Print, stored: Result<(), StoreError>) -> usize
     ensures { result ≤ 100 }
 {
-    match s {
-        Stored::Whole => say::text(rt, b"written"),
-        Stored::NoRoom => say::text(rt, b"not written (it is too long)"),
-        Stored::Unwritten(c) => tell_unwritten(rt, c),
+    match stored {
+        Ok(()) => say::text(rt, b"written"),
+        Err(StoreError::NoRoom) => say::text(rt, b"not written (it is too long)"),
+        Err(StoreError::Unwritten(c)) => tell_unwritten(rt, c),
     }
 }
 
@@ -176,5 +163,5 @@ pub fn tell_file(rt: &impl Print, f: u32, name: &[u8]) -> usize
     ensures { result ≤ 160 }
 {
     let n = say::text(rt, b"file ") + say::number(rt, f as u64) + say::text(rt, b", ");
-    n + say::text(rt, front_bytes(name, 128))
+    n + say::text(rt, front(name, 128))
 }

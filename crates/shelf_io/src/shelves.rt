@@ -1,19 +1,18 @@
 // Shelf files: opened and judged, and stored.
 ghost use Rattle.std.specs.Prelude.{◌≡◌};
 ghost use Rattle.formats.specs.Writing.{write_shelf};
-ghost use Rattle.shelf_io.specs.Opening.{none_used, Kept, Opens};
+ghost use Rattle.shelf_io.specs.Opening.{Kept, Opens};
 
 use crate::arguments::read_word;
 use crate::files;
-use crate::files::{Cause, Loaded, Stored};
+use crate::files::{Cause, LoadError, StoreError};
 use crate::sentences::tell_shelf;
-use formats::file::{Fault, Written};
+use formats::file::Fault;
 use formats::shelf_file;
-use formats::shelf_file::ShelfRead;
 use image::shelf::{Places, Used};
 use image::well_formed;
 use std::rt::{Env, Files};
-use tokens::front_bytes;
+use tokens::front;
 
 // The words and bytes of the longest shelf, and room for its file and one byte more, by which a longer file is known.
 pub const SHELF_WORDS: usize = 262144;
@@ -22,59 +21,46 @@ pub const SHELF_BYTES: usize = 131072;
 
 pub const FILE_ROOM: usize = 1179673;
 
-// What opening a shelf file came to: a well-formed shelf; or the file was not read, or it is no shelf file, or its shelf is not well formed.
-#[derive(Clone, Copy)]
-pub enum State {
-    Ready,
+// Why there is no shelf to work on: the file was not read, or it is no shelf file, or its shelf is not well formed.
+#[derive(Clone, Copy, PartialEq, Eq)]
+pub enum OpenError {
     Unread(Cause),
     NoShelf(Fault),
     Broken,
 }
 
-// The numbers of a shelf, and where its files stand. Where no shelf was read they are those of a shelf with no file.
+// The numbers of a well-formed shelf, and where its files stand.
 #[derive(Clone, Copy)]
 pub struct Opened {
-    pub state: State,
     pub used: Used,
     pub places: Places,
 }
 
-// What the bytes of a file were: a shelf with these numbers, or none.
-#[derive(Clone, Copy)]
-struct Decoded {
-    state: State,
-    used: Used,
-}
-
-fn none(state: State) -> Decoded
-    ensures { result ≡ record { state = state; used = none_used } }
-{
-    Decoded {
-        state,
-        used: Used {
-            words: 0,
-            bytes: 0,
-            files: 0,
-        },
+impl From<Fault> for OpenError {
+    fn from(fault: Fault) -> OpenError {
+        OpenError::NoShelf(fault)
     }
 }
 
-// Reads the shelf of a file that was read.
-fn decode(file: &[u8], words: &mut [u32], bytes: &mut [u8]) -> Decoded
-    ensures { Kept result.state result.used words.old bytes.old words.new bytes.new }
-{
-    let read = shelf_file::read_shelf(file, words, bytes);
-    match read {
-        ShelfRead::Unread(fault) => none(State::NoShelf(fault)),
-        ShelfRead::Whole(sizes) => Decoded {
-            state: State::Ready,
-            used: Used {
-                words: sizes.words,
-                bytes: sizes.bytes,
-                files: sizes.files,
-            },
-        },
+impl From<LoadError> for OpenError {
+    fn from(error: LoadError) -> OpenError {
+        match error {
+            LoadError::TooLong => OpenError::NoShelf(Fault::TooLong),
+            LoadError::Unread(cause) => OpenError::Unread(cause),
+        }
     }
+}
+
+// Reads the shelf of a file that was read, and answers its numbers.
+fn decode(file: &[u8], words: &mut [u32], bytes: &mut [u8]) -> Result<Used, OpenError>
+    ensures { Kept result words.old bytes.old words.new bytes.new }
+{
+    let sizes = shelf_file::read_shelf(file, words, bytes)?;
+    Ok(Used {
+        words: sizes.words,
+        bytes: sizes.bytes,
+        files: sizes.files,
+    })
 }
 
 // Reads a file, and its shelf.
@@ -84,15 +70,11 @@ fn load(
     file: &mut [u8],
     words: &mut [u32],
     bytes: &mut [u8],
-) -> Decoded
-    ensures { Kept result.state result.used words.old bytes.old words.new bytes.new }
+) -> Result<Used, OpenError>
+    ensures { Kept result words.old bytes.old words.new bytes.new }
 {
-    let loaded = files::read_whole(rt, path, file);
-    match loaded {
-        Loaded::Unread(cause) => none(State::Unread(cause)),
-        Loaded::TooLong => none(State::NoShelf(Fault::TooLong)),
-        Loaded::Whole(n) => decode(front_bytes(file, n), words, bytes),
-    }
+    let n = files::read_whole(rt, path, file)?;
+    decode(front(file, n), words, bytes)
 }
 
 // Opens a shelf file: it is read to the front of `words` and `bytes`, and judged. `file` is room for the file and one byte more.
@@ -102,48 +84,33 @@ pub fn open_shelf(
     file: &mut [u8],
     words: &mut [u32],
     bytes: &mut [u8],
-) -> Opened
+) -> Result<Opened, OpenError>
     ensures { Opens result words.old bytes.old words.new bytes.new }
 {
-    let decoded = load(rt, path, file, words, bytes);
-    let used = decoded.used;
-    let places = well_formed::read_shelf(words, bytes, used);
-    // A shelf with no file is well formed, so only one that was read can be broken.
-    if !places.whole {
-        let state = State::Broken;
-        return Opened {
-            state,
-            used,
-            places,
-        };
-    }
-    let state = decoded.state;
-    Opened {
-        state,
-        used,
-        places,
-    }
+    let used = load(rt, path, file, words, bytes)?;
+    let Some(places) = well_formed::read_shelf(words, bytes, used) else {
+        return Err(OpenError::Broken);
+    };
+    Ok(Opened { used, places })
 }
 
-// Opens the shelf file that word `i` names, and says what is wrong where it is not ready.
+// Opens the shelf file that word `i` names, and says what is wrong where there is none to work on.
 pub fn open_named(
     rt: &(impl Env + Files + Print),
     i: usize,
     file: &mut [u8],
     words: &mut [u32],
     bytes: &mut [u8],
-) -> Opened
+) -> Result<Opened, OpenError>
     ensures { Opens result words.old bytes.old words.new bytes.new }
 {
     let mut buffer = io::buffer();
     let n = read_word(rt, i, &mut buffer);
-    let path = front_bytes(&buffer, n);
+    let path = front(&buffer, n);
     let opened = open_shelf(rt, path, file, words, bytes);
-    let state = opened.state;
-    if let State::Ready = state {
-        return opened;
+    if let Err(error) = opened {
+        tell_shelf(rt, path, Err(error));
     }
-    tell_shelf(rt, path, state);
     opened
 }
 
@@ -155,12 +122,12 @@ pub fn store_shelf(
     bytes: &[u8],
     used: Used,
     file: &mut [u8],
-) -> Stored
+) -> Result<(), StoreError>
     ensures { file.new ≡ (write_shelf words.now bytes.now used.words used.bytes used.files file.old).out }
 {
     let made = shelf_file::write_shelf(words, bytes, used.words, used.bytes, used.files, file);
-    match made {
-        Written::Nothing => Stored::NoRoom,
-        Written::Bytes(n) => files::store_whole(rt, path, front_bytes(file, n)),
-    }
+    let Some(n) = made else {
+        return Err(StoreError::NoRoom);
+    };
+    files::store_whole(rt, path, front(file, n)).map_err(StoreError::Unwritten)
 }

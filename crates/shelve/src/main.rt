@@ -11,28 +11,11 @@ mod tally;
 use image::shelf::Used;
 use shelf_io::arguments::{count_words, read_word};
 use shelf_io::files::Cause;
-use shelf_io::shelves::State;
+use shelf_io::shelves::OpenError;
 use shelf_io::{say, sentences, shelves};
 use std::rt::{Env, Files};
 use tally::Tally;
-use tokens::front_bytes;
-
-// Whether there is a shelf to link onto: one that was read, or an empty one where there is no file yet.
-fn can_start(state: State) -> bool {
-    match state {
-        State::Ready => true,
-        State::Unread(cause) => is_missing(cause),
-        State::NoShelf(fault) => false,
-        State::Broken => false,
-    }
-}
-
-fn is_missing(cause: Cause) -> bool {
-    if let Cause::Missing = cause {
-        return true;
-    }
-    false
-}
+use tokens::front;
 
 // Links the images that are named behind the shelf.
 fn link_all(
@@ -42,13 +25,10 @@ fn link_all(
     file: &mut [u8],
     used: Used,
 ) -> Tally {
-    let count = count_words(rt);
-    let mut t = tally::start(used);
-    let mut i = 2;
-    while i < count {
-        t = images::link_named(rt, i, words, bytes, file, t);
+    let mut t = Tally::start(used);
+    for i in 2..count_words(rt) {
+        t = t.with(images::link_named(rt, i, words, bytes, file, t.used));
         say::text(rt, b"\n");
-        i += 1;
     }
     t
 }
@@ -64,7 +44,7 @@ fn finish(
 ) {
     say::text(rt, path);
     say::text(rt, b": ");
-    tally::tell(rt, t);
+    t.say(rt);
     if t.accepted == 0 {
         say::text(rt, b"; not written, since nothing was accepted\n");
         return;
@@ -85,12 +65,20 @@ fn shelve(
     file: &mut [u8],
 ) {
     let opened = shelves::open_shelf(rt, path, file, words, bytes);
-    let state = opened.state;
-    if !can_start(state) {
-        sentences::tell_shelf(rt, path, state);
-        return;
-    }
-    let t = link_all(rt, words, bytes, file, opened.used);
+    let used = match opened {
+        Ok(opened) => opened.used,
+        // There is no file yet: the shelf is empty.
+        Err(OpenError::Unread(Cause::Missing)) => Used {
+            words: 0,
+            bytes: 0,
+            files: 0,
+        },
+        Err(error) => {
+            sentences::tell_shelf(rt, path, Err(error));
+            return;
+        }
+    };
+    let t = link_all(rt, words, bytes, file, used);
     finish(rt, path, words, bytes, file, t);
 }
 
@@ -104,7 +92,7 @@ fn run(rt: &(impl Env + Files + Print), words: &mut [u32], bytes: &mut [u8], fil
     }
     let mut path = io::buffer();
     let n = read_word(rt, 1, &mut path);
-    shelve(rt, front_bytes(&path, n), words, bytes, file);
+    shelve(rt, front(&path, n), words, bytes, file);
 }
 
 fn main(rt: HostRuntime) {

@@ -1,6 +1,6 @@
 // The shelf's three numbers, and how many images were accepted, refused, or not read.
+use crate::images::NotLinked;
 use image::shelf::Used;
-use shelf_io::counts::one_more;
 use shelf_io::say;
 
 #[derive(Clone, Copy)]
@@ -11,38 +11,37 @@ pub struct Tally {
     pub unread: u64,
 }
 
-pub fn start(used: Used) -> Tally {
-    Tally {
-        used,
-        accepted: 0,
-        refused: 0,
-        unread: 0,
-    }
-}
-
 impl Tally {
-    pub fn accept(mut self, used: Used) -> Tally {
-        self.used = used;
-        self.accepted = one_more(self.accepted);
+    pub fn start(used: Used) -> Tally {
+        Tally {
+            used,
+            accepted: 0,
+            refused: 0,
+            unread: 0,
+        }
+    }
+
+    // An image more, by what became of it.
+    pub fn with(mut self, linked: Result<Used, NotLinked>) -> Tally {
+        match linked {
+            Ok(used) => {
+                self.used = used;
+                self.accepted = self.accepted.saturating_add(1);
+            }
+            Err(NotLinked::Refused(_)) => self.refused = self.refused.saturating_add(1),
+            Err(NotLinked::Unread(_) | NotLinked::NoImage(_)) => {
+                self.unread = self.unread.saturating_add(1);
+            }
+        }
         self
     }
 
-    pub fn refuse(mut self) -> Tally {
-        self.refused = one_more(self.refused);
-        self
+    pub fn say(self, rt: &impl Print) {
+        say::number(rt, self.accepted);
+        say::text(rt, b" accepted, ");
+        say::number(rt, self.refused);
+        say::text(rt, b" refused, ");
+        say::number(rt, self.unread);
+        say::text(rt, b" not read");
     }
-
-    pub fn pass_over(mut self) -> Tally {
-        self.unread = one_more(self.unread);
-        self
-    }
-}
-
-pub fn tell(rt: &impl Print, t: Tally) {
-    say::number(rt, t.accepted);
-    say::text(rt, b" accepted, ");
-    say::number(rt, t.refused);
-    say::text(rt, b" refused, ");
-    say::number(rt, t.unread);
-    say::text(rt, b" not read");
 }

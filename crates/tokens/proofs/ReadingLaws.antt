@@ -9,37 +9,38 @@ use Rattle.tokens.specs.declared.Token.{Token}
 use Rattle.tokens.specs.Tokens.{next_token}
 use Rattle.tokens.specs.Reading.{of_tokens, end_of_tokens, filled}
 
-filled_nil : (ws : List ℕ) → filled ws [] ≡ ws
-unfolding filled
-filled_nil [] = refl
-filled_nil (w ∷ ws) = refl
+module _ {A : Type 0} where
+  filled_nil : (ws : List A) → filled ws [] ≡ ws
+  unfolding filled
+  filled_nil [] = refl
+  filled_nil (w ∷ ws) = refl
 
-length-filled : (ws vs : List ℕ) → length (filled ws vs) ≡ length ws
-unfolding filled
-length-filled [] vs = refl
-length-filled (w ∷ ws) [] = refl
-length-filled (w ∷ ws) (v ∷ vs) = ap suc (length-filled ws vs)
+  length-filled : (ws vs : List A) → length (filled ws vs) ≡ length ws
+  unfolding filled
+  length-filled [] vs = refl
+  length-filled (w ∷ ws) [] = refl
+  length-filled (w ∷ ws) (v ∷ vs) = ap suc (length-filled ws vs)
 
--- one element more, which has room or not
-filled_more : (ws vs : List ℕ) (v : ℕ) → set (filled ws vs) (length vs) v ≡ filled ws (vs ++ (v ∷ []))
-unfolding filled
-filled_more [] vs v = refl
-filled_more (w ∷ ws) [] v = ap (λ (l : List ℕ). v ∷ l) (sym (filled_nil ws))
-filled_more (w ∷ ws) (u ∷ vs) v = ap (λ (l : List ℕ). u ∷ l) (filled_more ws vs v)
+  -- one element more, which has room or not
+  filled_more : (ws vs : List A) (v : A) → set (filled ws vs) (length vs) v ≡ filled ws (vs ++ (v ∷ []))
+  unfolding filled
+  filled_more [] vs v = refl
+  filled_more (w ∷ ws) [] v = ap (λ (l : List A). v ∷ l) (sym (filled_nil ws))
+  filled_more (w ∷ ws) (u ∷ vs) v = ap (λ (l : List A). u ∷ l) (filled_more ws vs v)
 
 -- with i of n tokens read, up to `end`: what was made of them stands in front, and the tokens from `end` on give the rest
-pub record Reading (f : Token → ℕ) (text : List ℕ) (at n : ℕ) (ws₀ ws : List ℕ) (end i : ℕ) : Type 0 where
-  pub made : List ℕ
+pub record Reading {A : Type 0} (f : Token → A) (text : List ℕ) (at n : ℕ) (ws₀ ws : List A) (end i : ℕ) : Type 0 where
+  pub made : List A
   pub size : length made ≡ i
   pub written : ws ≡ filled ws₀ made
   pub rest : of_tokens f text at n ≡ made ++ of_tokens f text end (n - i)
   pub last : end_of_tokens text at n ≡ end_of_tokens text end (n - i)
 
-pub reading_start : (f : Token → ℕ) (text : List ℕ) (at n : ℕ) (ws : List ℕ) → Reading f text at n ws ws at 0
+pub reading_start : {A : Type 0} (f : Token → A) (text : List ℕ) (at n : ℕ) (ws : List A) → Reading f text at n ws ws at 0
 reading_start f text at n ws = record { made = []; size = refl; written = sym (filled_nil ws); rest = rw (sub-zero n); last = rw (sub-zero n) }
 
-module _ {f : Token → ℕ} {text : List ℕ} {at n : ℕ} {ws₀ ws : List ℕ} {end i : ℕ} (r : Reading f text at n ws₀ ws end i) where
-  pub reading_more : i < n → (t : Token) (v : ℕ) (ws' : List ℕ) → t ≡ next_token text end → v ≡ f t → ws' ≡ set ws i v → Reading f text at n ws₀ ws' t.end (i + 1)
+module _ {A : Type 0} {f : Token → A} {text : List ℕ} {at n : ℕ} {ws₀ ws : List A} {end i : ℕ} (r : Reading f text at n ws₀ ws end i) where
+  pub reading_more : i < n → (t : Token) (v : A) (ws' : List A) → t ≡ next_token text end → v ≡ f t → ws' ≡ set ws i v → Reading f text at n ws₀ ws' t.end (i + 1)
   unfolding of_tokens end_of_tokens
   reading_more h t v ws' e q w =
       let k : n - i ≡ suc (n - (i + 1)) = omega arith in

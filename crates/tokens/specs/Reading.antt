@@ -4,7 +4,7 @@ use Rattle.tokens.specs.declared.Token.{Token}
 use Rattle.tokens.specs.Tokens.{next_token, number_of}
 
 -- what f makes of each of the next n tokens, from `at` on
-unfoldable pub of_tokens : (Token → ℕ) → List ℕ → ℕ → ℕ → List ℕ
+unfoldable pub of_tokens : {A : Type 0} → (Token → A) → List ℕ → ℕ → ℕ → List A
 of_tokens f text at zero = []
 of_tokens f text at (suc n) = f (next_token text at) ∷ of_tokens f text (next_token text at).end n
 
@@ -26,7 +26,7 @@ abbrev pub bytes_from : List ℕ → ℕ → ℕ → List ℕ
 bytes_from text at n = of_tokens (λ t. low_byte (number_of text t)) text at n
 
 -- `ws` with `vs` in the place of its first elements, as far as it has room for them
-unfoldable pub filled : List ℕ → List ℕ → List ℕ
+unfoldable pub filled : {A : Type 0} → List A → List A → List A
 filled [] vs = []
 filled (w ∷ ws) [] = w ∷ ws
 filled (w ∷ ws) (v ∷ vs) = v ∷ filled ws vs

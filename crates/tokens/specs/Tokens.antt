@@ -1,8 +1,9 @@
 -- The tokens of a text: runs of bytes that are neither white space nor in a comment. `#` starts a comment, which runs to the end of its
 -- line. Assumes nothing.
-use Rattle.std.specs.Prelude.{ℕ, suc, ◌+◌, ◌-◌, ◌^◌, Bool, false, cond, ◌||◌, List, [], ◌∷◌, leb, eqb, take, drop}
-use Rattle.std.proofs.Math.Option.{Option, none, some}
+use Rattle.std.specs.Prelude.{ℕ, suc, ◌+◌, ◌-◌, ◌^◌, Bool, false, cond, ◌||◌, List, [], ◌∷◌, leb, eqb, take, drop, unwrap_or, Ok, Err}
 use Rattle.names.specs.Integer.{unsigned}
+use Rattle.names.specs.Default.{DefaultRead}
+use Rattle.names.specs.declared.runtime_type_box.ReadDefault.TheVariants.{Integer, Text, ValueName}
 use Rattle.tokens.specs.declared.Token.{Token}
 
 -- the bytes newline, space and `#`
@@ -51,12 +52,14 @@ next_token text at = record { start = token_start text at; end = token_end text 
 abbrev pub bytes_of : List ℕ → Token → List ℕ
 bytes_of text t = drop t.start (take t.end text)
 
--- a number, or 0 where there is none
-abbrev pub or_zero : Option ℕ → ℕ
-or_zero none = 0
-or_zero (some n) = n
+-- the low word of an integer that was read, or 0 where none was
+abbrev pub low_of : DefaultRead → ℕ
+low_of (Ok (Integer w)) = w.low
+low_of (Ok (Text w)) = 0
+low_of (Ok ValueName) = 0
+low_of (Err e) = 0
 
 -- the number of 32 bits that a token is: digits, perhaps behind a plus; 0 where it is none
 unfoldable pub number_of : List ℕ → Token → ℕ
 unfolding unsigned
-number_of text t = or_zero (unsigned (2 ^ 32 - 1) (bytes_of text t))
+number_of text t = unwrap_or (unsigned (2 ^ 32 - 1) (bytes_of text t)) 0

@@ -5,7 +5,7 @@ ghost use Rattle.tokens.specs.Heads.{is_outside, is_met, expected_at, head_of};
 use crate::{Token, is, next, number};
 
 // What a case expects of a file.
-#[derive(Clone, Copy)]
+#[derive(Clone, Copy, PartialEq, Eq)]
 pub enum Expect {
     Domain,
     Refused(u32),
@@ -14,14 +14,14 @@ pub enum Expect {
 }
 
 // What is expected, and where the tokens end that say so.
-#[derive(Clone, Copy)]
+#[derive(Clone, Copy, PartialEq, Eq)]
 pub struct Expected {
     pub expect: Expect,
     pub end: usize,
 }
 
 // How many words and bytes a file has, what is expected of it, and where its words start.
-#[derive(Clone, Copy)]
+#[derive(Clone, Copy, PartialEq, Eq)]
 pub struct Head {
     pub words: u32,
     pub bytes: u32,
@@ -33,22 +33,7 @@ pub struct Head {
 pub fn is_outside(number: u32) -> bool
     ensures { result ≡ is_outside number }
 {
-    if number == 0 {
-        return false;
-    }
-    if number <= 8 {
-        return true;
-    }
-    if number == 13 {
-        return true;
-    }
-    if number == 14 {
-        return true;
-    }
-    if number == 16 {
-        return true;
-    }
-    number == 18
+    matches!(number, 1..=8 | 13 | 14 | 16 | 18)
 }
 
 // Whether a file answers what is expected of it: with a refusal's number and place, or with number 0 where it is accepted.
@@ -99,12 +84,11 @@ pub fn head_of(text: &[u8], t: Token) -> Head
 {
     let w = next(text, t.end);
     let b = next(text, w.end);
-    let e = expected_at(text, next(text, b.end));
-    let expect = e.expect;
+    let Expected { expect, end } = expected_at(text, next(text, b.end));
     Head {
         words: number(text, w),
         bytes: number(text, b),
         expect,
-        end: e.end,
+        end,
     }
 }

@@ -6,16 +6,17 @@
 
 pub mod heads;
 
-ghost use Rattle.std.specs.Prelude.{◌≡◌, ◌||◌, eqb, take, drop, set};
+ghost use Rattle.std.specs.Prelude.{◌≡◌, ℕ, ◌||◌, eqb, take, drop, set};
 ghost use Rattle.lists.specs.Lists.{same};
-ghost use Rattle.tokens.specs.Tokens.{hash, is_space, in_comment, token_start, token_end, next_token, bytes_of, number_of};
-ghost use Rattle.tokens.specs.Reading.{low_byte, filled, words_from, bytes_from, end_of_tokens};
+ghost use Rattle.tokens.specs.Tokens.{hash, is_space, in_comment, token_start, token_end, next_token, bytes_of, low_of, number_of};
+ghost use Rattle.tokens.specs.Reading.{low_byte, filled, of_tokens, end_of_tokens};
 
-use names::bytes;
-use names::runtime_type_box::{DefaultRead, RuntimeType, parse_proto_default_value};
+use names::runtime_type_box::{
+    DefaultRefused, ReadDefault, RuntimeType, parse_proto_default_value,
+};
 
 // Where a token stands: from `start` up to `end`. Where no token is left the two are equal.
-#[derive(Clone, Copy)]
+#[derive(Clone, Copy, PartialEq, Eq)]
 pub struct Token {
     pub start: usize,
     pub end: usize,
@@ -25,24 +26,21 @@ pub struct Token {
 fn in_comment(before: bool, b: u8) -> bool
     ensures { result ≡ in_comment before b }
 {
-    if b == 10 {
-        return false;
-    }
-    before || b == 35
+    b != b'\n' && (before || b == b'#')
 }
 
 // Whether `b` belongs to no token.
 fn is_passed_over(comment: bool, b: u8) -> bool
     ensures { result ≡ (comment || is_space b) }
 {
-    comment || b <= 32
+    comment || b <= b' '
 }
 
 // Whether a token ends in front of `b`.
 fn ends_token(b: u8) -> bool
     ensures { result ≡ (is_space b || eqb b hash) }
 {
-    b <= 32 || b == 35
+    b <= b' ' || b == b'#'
 }
 
 // Where the next token starts, from `at` on.
@@ -50,30 +48,21 @@ fn token_start(text: &[u8], at: usize) -> usize
     ensures { result ≡ token_start text.now at }
 {
     let mut comment = false;
-    let mut i = at;
-    while i < text.len() {
-        let b = text[i];
-        comment = in_comment(comment, b);
-        if !is_passed_over(comment, b) {
+    for i in at..text.len() {
+        comment = in_comment(comment, text[i]);
+        if !is_passed_over(comment, text[i]) {
             return i;
         }
-        i += 1;
     }
-    i
+    at.max(text.len())
 }
 
 // Where the token ends that starts at `at`.
 fn token_end(text: &[u8], at: usize) -> usize
     ensures { result ≡ token_end text.now at }
 {
-    let mut i = at;
-    while i < text.len() {
-        if ends_token(text[i]) {
-            return i;
-        }
-        i += 1;
-    }
-    i
+    let rest = &text[at.min(text.len())..];
+    at + rest.iter().take_while(|&&b| !ends_token(b)).count()
 }
 
 // The next token, from `at` on.
@@ -85,65 +74,50 @@ pub fn next(text: &[u8], at: usize) -> Token
     Token { start, end }
 }
 
-// The first n words, or all where there are fewer.
-pub fn front_words(words: &[u32], n: usize) -> &[u32]
-    ensures { result.now ≡ take n words.now }
+// The first n of the items, or all where there are fewer.
+pub fn front<T>(items: &[T], n: usize) -> &[T]
+    ensures { result.now ≡ take n items.now }
 {
-    if words.len() <= n {
-        return words;
-    }
-    &words[..n]
+    &items[..n.min(items.len())]
 }
 
-// The first n bytes, or all where there are fewer.
-pub fn front_bytes(bytes: &[u8], n: usize) -> &[u8]
-    ensures { result.now ≡ take n bytes.now }
+// The items from number `start` up to number `end`, as far as there are any.
+pub fn between<T>(items: &[T], start: usize, end: usize) -> &[T]
+    ensures { result.now ≡ drop start (take end items.now) }
 {
-    if bytes.len() <= n {
-        return bytes;
-    }
-    &bytes[..n]
-}
-
-// The words from word `start` up to word `end`, as far as there are any.
-pub fn words_between(words: &[u32], start: usize, end: usize) -> &[u32]
-    ensures { result.now ≡ drop start (take end words.now) }
-{
-    let front = front_words(words, end);
-    if front.len() <= start {
-        return &front[..0];
-    }
-    &front[start..]
+    let front = front(items, end);
+    &front[start.min(front.len())..]
 }
 
 // The bytes of a token.
 pub fn bytes_of(text: &[u8], t: Token) -> &[u8]
     ensures { result.now ≡ bytes_of text.now t }
 {
-    let start = t.start;
-    let front = front_bytes(text, t.end);
-    if front.len() <= start {
-        return &front[..0];
-    }
-    &front[start..]
+    between(text, t.start, t.end)
 }
 
 // Whether a token is that word.
 pub fn is(text: &[u8], t: Token, word: &[u8]) -> bool
     ensures { result ≡ same (bytes_of text.now t) word.now }
 {
-    bytes::same_bytes(bytes_of(text, t), word)
+    bytes_of(text, t) == word
+}
+
+// The number that was read, or 0.
+fn low_of(read: Result<ReadDefault, DefaultRefused>) -> u32
+    ensures { result ≡ low_of read }
+{
+    match read {
+        Ok(ReadDefault::Integer(w)) => w.low,
+        _ => 0,
+    }
 }
 
 // The number that a token is, or 0. It is read as the default of a uint32 field is.
 pub fn number(text: &[u8], t: Token) -> u32
     ensures { result ≡ number_of text.now t }
 {
-    let read = parse_proto_default_value(RuntimeType::U32, bytes_of(text, t), 0);
-    match read {
-        DefaultRead::Integer(w) => w.low,
-        _ => 0,
-    }
+    low_of(parse_proto_default_value(RuntimeType::U32, bytes_of(text, t), 0))
 }
 
 // The low 8 bits of a word.
@@ -153,52 +127,49 @@ pub fn low_byte(n: u32) -> u8
     (n % 256) as u8
 }
 
-// Sets word `at`, if there is one.
-pub fn set_word(words: &mut [u32], at: usize, word: u32)
-    ensures { words.new ≡ set words.old at word }
+// Sets item `at`, if there is one.
+pub fn set<T: Copy>(items: &mut [T], at: usize, item: T)
+    ensures { items.new ≡ set items.old at item }
 {
-    if at < words.len() {
-        words[at] = word;
+    if at < items.len() {
+        items[at] = item;
     }
 }
 
-// Sets byte `at`, if there is one.
-pub fn set_byte(bytes: &mut [u8], at: usize, byte: u8)
-    ensures { bytes.new ≡ set bytes.old at byte }
-{
-    if at < bytes.len() {
-        bytes[at] = byte;
+// What a number is read as: a word is the number, a byte its low 8 bits.
+pub trait FromNumber: Copy {
+    ghost of_number: { ℕ → Self };
+
+    fn of_number(n: u32) -> Self
+        ensures { result ≡ of_number n };
+}
+
+impl FromNumber for u32 {
+    ghost of_number = { λ n. n };
+
+    fn of_number(n: u32) -> u32 {
+        n
     }
 }
 
-// Reads the next n tokens, from `at` on, as numbers into the front of `words`, as far as there is room; the answer is where they end.
-pub fn read_words(text: &[u8], at: usize, words: &mut [u32], n: usize) -> usize
+impl FromNumber for u8 {
+    ghost of_number = { low_byte };
+
+    fn of_number(n: u32) -> u8 {
+        low_byte(n)
+    }
+}
+
+// Reads the next n tokens, from `at` on, as numbers into the front of `items`, as far as there is room; the answer is where they end.
+pub fn read<T: FromNumber>(text: &[u8], at: usize, items: &mut [T], n: usize) -> usize
     ensures value { result ≡ end_of_tokens text.now at n }
-    ensures words_after { words.new ≡ filled words.old (words_from text.now at n) }
+    ensures items_after { items.new ≡ filled items.old (of_tokens (λ t. T.of_number (number_of text.now t)) text.now at n) }
 {
     let mut end = at;
-    let mut i = 0;
-    while i < n {
+    for i in 0..n {
         let t = next(text, end);
-        set_word(words, i, number(text, t));
+        set(items, i, T::of_number(number(text, t)));
         end = t.end;
-        i += 1;
-    }
-    end
-}
-
-// Reads them into the front of `bytes`, the low 8 bits of each.
-pub fn read_bytes(text: &[u8], at: usize, bytes: &mut [u8], n: usize) -> usize
-    ensures value { result ≡ end_of_tokens text.now at n }
-    ensures bytes_after { bytes.new ≡ filled bytes.old (bytes_from text.now at n) }
-{
-    let mut end = at;
-    let mut i = 0;
-    while i < n {
-        let t = next(text, end);
-        set_byte(bytes, i, low_byte(number(text, t)));
-        end = t.end;
-        i += 1;
     }
     end
 }

@@ -9,8 +9,8 @@ slice_bounds-read_list-end-2 c = cases_room
 pub slice_bounds-read_list-end-4 : goal.slice_bounds-read_list-end-4
 slice_bounds-read_list-end-4 c = answers_room
 
-pub slice_bounds-front_bytes-end : goal.slice_bounds-front_bytes-end
-slice_bounds-front_bytes-end c = cases_room ∙ sym c.read_list-n.auto.list
+pub slice_bounds-front-end : goal.slice_bounds-front-end
+slice_bounds-front-end c = cases_room ∙ sym c.read_list-n.auto.list
 
-pub slice_bounds-front_bytes-end-2 : goal.slice_bounds-front_bytes-end-2
-slice_bounds-front_bytes-end-2 c = answers_room ∙ sym c.read_list-k.auto.list
+pub slice_bounds-front-end-2 : goal.slice_bounds-front-end-2
+slice_bounds-front-end-2 c = answers_room ∙ sym c.read_list-k.auto.list

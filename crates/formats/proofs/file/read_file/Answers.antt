@@ -1,48 +1,84 @@
--- `formats::file::read_file` meets its contract. Assumes nothing.
+-- `formats::file::read_file` meets its contract: a file without a fault has all that is read, and there is room for it. Assumes nothing.
 use native.Mathlib.Omega.{arith}
-use mathlib.Core.Path.{◌≡◌, sym, ◌∙◌}
-use Prim.Native.Nat.{◌+◌, ◌*◌, ◌≤◌}
+use mathlib.Core.Path.{◌≡◌, sym, ap, ◌∙◌}
+use mathlib.Core.List.{List, ◌++◌}
+use Prim.Native.Nat.{ℕ, ◌+◌, ◌*◌}
 use lib.ListN.{length, drop, length-drop}
+use lib.Seq.{length-take-le}
+use Rattle.std.specs.Prelude.{Result, Ok, Err}
 use Rattle.lists.specs.Splice.{splice}
 use Rattle.lists.proofs.ListLaws.{part_all}
-use Rattle.lists.proofs.SpliceLaws.{fronted_fits}
+use Rattle.lists.proofs.SpliceLaws.{splice_front}
+use borrow.Author.Rules.{rules}
+use Rattle.formats.specs.Reading.{judged}
+use Rattle.formats.specs.declared.file.Sizes.{Sizes}
+use Rattle.formats.specs.declared.file.Fault.{Fault}
+use Rattle.formats.specs.declared.file.Kind.{Kind}
 use Rattle.formats.proofs.ReadLaws.{Sound, asked_of, whole-sound, read_unread, read_whole}
 use Rattle.formats.proofs.file.read_file.Goals as goal
-use Rattle.formats.proofs.file.read_file.Goals.{After-put_front, In-Whole}
 
 -- the file has no fault
-fine : (c : In-Whole) → let a = c.args in Sound (asked_of (record { magic = c.args.magic.now; head = c.args.head }) a.file.now a.words.now a.bytes.now) (c.in-Whole.sizes)
-fine c =
-    let a = c.args in
-    whole-sound (asked_of (record { magic = c.args.magic.now; head = c.args.head }) a.file.now a.words.now a.bytes.now) (c.in-Whole.sizes) (omega (arith, c.requires))
-    (sym c.judge-r.ensures ∙ c.in-Whole.is)
+fine : (k : Kind) (file words bytes : List ℕ) (r : Result Sizes Fault) (s : Sizes)
+    → r ≡ judged (record { magic = k.magic; head = k.head }) file (length words) (length bytes) → r ≡ Ok s
+    → Sound (asked_of (record { magic = k.magic; head = k.head }) file words bytes) s
+fine k file words bytes r s e h =
+    whole-sound (asked_of (record { magic = k.magic; head = k.head }) file words bytes) s (omega arith) (sym e ∙ h)
 
--- what is copied is all that stands behind the words, and there is room for it
-copied : (c : After-put_front) → let a = c.args in
-    c.put_front.new.out ≡ splice a.bytes.now 0 (drop (a.head + (c.in-Whole.sizes).words * 4) a.file.now)
-copied c =
+pub returns-in_err-sizes : goal.returns-in_err-sizes
+returns-in_err-sizes c =
     let a = c.args in
-    let w = fine (goal.at.After-put_front c).In-Whole in
-    let from = a.head + (c.in-Whole.sizes).words * 4 in
-    let fits : length (drop from a.file.now) ≤ length a.bytes.now = simp length-drop (omega (arith, w.size, w.words, w.bytes, w.bytes_fit)) in
-    c.put_front.ensures.out_after ∙ rw (part_all a.file.now from) (fronted_fits a.bytes.now (drop from a.file.now) fits)
+    let e : c.from_residual.result ≡ Err c.in_err-sizes.field-0.0 = search rules in
+    rw e
+    (read_unread (record { magic = a.kind.magic; head = a.kind.head }) a.file.now a.words.now a.bytes.now c.in_err-sizes.field-0.0 (sym c.judge.ensures ∙ c.in_err-sizes.was))
 
 pub read_words-requires : goal.read_words-requires
 read_words-requires c =
-    let w = fine (goal.at.read_words-requires c).In-Whole in
-    record { n_in_bounds = omega (arith, w.size, w.words); n_in_bounds_2 = w.words_fit }
+    let a = c.args in
+    let w = fine a.kind a.file.now a.words.now a.bytes.now _ _ c.judge.ensures c.in_ok-sizes.was in
+    record { n_in_bounds = omega arith; n_in_bounds_2 = omega arith }
 
-pub slice_bounds-put_front-count : goal.slice_bounds-put_front-count
-slice_bounds-put_front-count c = let w = fine (goal.at.slice_bounds-put_front-count c).In-Whole in omega (arith, w.size, w.words)
+pub slice_bounds-copy_from_slice-end : goal.slice_bounds-copy_from_slice-end
+slice_bounds-copy_from_slice-end c =
+    let a = c.args in
+    let w = fine a.kind a.file.now a.words.now a.bytes.now _ _ c.judge.ensures c.in_ok-sizes.was in
+    omega arith
 
-pub slice_bounds-put_front-start : goal.slice_bounds-put_front-start
-slice_bounds-put_front-start c = let w = fine (goal.at.slice_bounds-put_front-start c).In-Whole in omega (arith, w.size, w.words)
+pub slice_bounds-copy_from_slice-end-2 : goal.slice_bounds-copy_from_slice-end-2
+slice_bounds-copy_from_slice-end-2 c =
+    let a = c.args in
+    let w = fine a.kind a.file.now a.words.now a.bytes.now _ _ c.judge.ensures c.in_ok-sizes.was in
+    sym (length-take-le c.in_ok-sizes.sizes.bytes a.bytes.now (omega arith))
 
-pub returns-in-Unread : goal.returns-in-Unread
-returns-in-Unread c = read_unread (record { magic = c.args.magic.now; head = c.args.head }) c.args.file.now c.args.words.now c.args.bytes.now c.in-Unread.f
-    (sym c.judge-r.ensures ∙ c.in-Unread.is)
+pub slice_bounds-copy_from_slice-count : goal.slice_bounds-copy_from_slice-count
+slice_bounds-copy_from_slice-count c =
+    let a = c.args in
+    let w = fine a.kind a.file.now a.words.now a.bytes.now _ _ c.judge.ensures c.in_ok-sizes.was in
+    omega arith
 
-pub returns-in-Whole : goal.returns-in-Whole
-returns-in-Whole c = rw (c.read_words.ensures, copied (goal.at.returns-in-Whole c).After-put_front)
-    (read_whole (record { magic = c.args.magic.now; head = c.args.head }) c.args.file.now c.args.words.now c.args.bytes.now (c.in-Whole.sizes) (omega (arith, c.requires))
-    (sym c.judge-r.ensures ∙ c.in-Whole.is))
+pub slice_bounds-copy_from_slice-start : goal.slice_bounds-copy_from_slice-start
+slice_bounds-copy_from_slice-start c =
+    let a = c.args in
+    let w = fine a.kind a.file.now a.words.now a.bytes.now _ _ c.judge.ensures c.in_ok-sizes.was in
+    omega arith
+
+pub copy_from_slice-requires : goal.copy_from_slice-requires
+copy_from_slice-requires c =
+    let a = c.args in
+    let s = c.in_ok-sizes.sizes in
+    let w = fine a.kind a.file.now a.words.now a.bytes.now _ _ c.judge.ensures c.in_ok-sizes.was in
+    let from = a.kind.head + s.words * 4 in
+    length-take-le s.bytes a.bytes.now (omega arith)
+    ∙ sym (ap length (part_all a.file.now from) ∙ length-drop from a.file.now ∙ omega arith)
+
+pub returns : goal.returns
+returns c =
+    let a = c.args in
+    let s = c.in_ok-sizes.sizes in
+    let w = fine a.kind a.file.now a.words.now a.bytes.now _ _ c.judge.ensures c.in_ok-sizes.was in
+    let from = a.kind.head + s.words * 4 in
+    let stored = drop from a.file.now in
+    let e : c.copy_from_slice.new.self ≡ stored = c.copy_from_slice.ensures.after ∙ part_all a.file.now from in
+    let n : s.bytes ≡ length stored = omega (arith, length-drop from a.file.now) in
+    let front : c.copy_from_slice.new.self ++ drop s.bytes a.bytes.now ≡ splice a.bytes.now 0 stored = rw (e, n) (sym (splice_front a.bytes.now stored)) in
+    rw (front, c.read_words.ensures)
+    (read_whole (record { magic = a.kind.magic; head = a.kind.head }) a.file.now a.words.now a.bytes.now s (omega arith) (sym c.judge.ensures ∙ c.in_ok-sizes.was))

@@ -1,13 +1,9 @@
 -- `formats::words::put_words` meets its contract: what is written so far are the bytes of the first words. Assumes nothing.
 use mathlib.Core.Path.{◌≡◌}
-use Prim.Native.Nat.{◌≤◌, ◌-◌}
-use lib.ListN.{length, take}
+use lib.ListN.{take}
 use Rattle.lists.specs.Splice.{splice}
 use Rattle.formats.specs.Words.{in_bytes}
 use Rattle.formats.proofs.words.put_words.Given as goal
 
 abbrev pub invariant-loop-i : goal.invariant-loop-i
-invariant-loop-i l = (l.i ≤ length l.words) × (length l.out ≡ length l.initial.out) × (l.out ≡ splice l.initial.out l.at (in_bytes (take l.i l.words)))
-
-abbrev pub decreases-loop-i : goal.decreases-loop-i
-decreases-loop-i l = length l.words - l.i
+invariant-loop-i l = l.out ≡ splice l.initial.out l.at (in_bytes (take l.i l.words))

@@ -8,4 +8,4 @@ abbrev pub invariant-loop-s : goal.invariant-loop-s
 invariant-loop-s g l = (length l.words ≡ length l.initial.words) × (length l.bytes ≡ length l.initial.bytes)
 
 abbrev pub decreases-loop-s : goal.decreases-loop-s
-decreases-loop-s g l = length l.cases - l.s.at
+decreases-loop-s g l = length l.lists.cases.now - l.s.at

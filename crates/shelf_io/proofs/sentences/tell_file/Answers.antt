@@ -6,6 +6,6 @@ use Rattle.shelf_io.proofs.sentences.tell_file.Goals as goal
 
 pub returns : goal.returns
 returns g c =
-    let part = c.front_bytes in
+    let part = c.front in
     let e : length part.result.now ≤ 128 = rw (part.ensures, length-take) (omega arith) in
     omega (arith, e, c.text-3.ensures)

@@ -1,8 +1,8 @@
--- `link_cases::read_full` ends: its loop has a measure. Assumes nothing.
+-- `shelf_io::files::read_full` meets its contract: what was read lies within `out`. Assumes nothing.
 use Prim.Native.Nat.{◌≤◌, ◌-◌}
 use mathlib.Core.Path.{◌≡◌}
 use lib.ListN.{length}
-use Rattle.link_cases.proofs.read_full.Given as goal
+use Rattle.shelf_io.proofs.files.read_full.Given as goal
 
 abbrev pub invariant-loop-n : goal.invariant-loop-n
 invariant-loop-n g l = (length l.out ≡ length l.initial.out) × (l.n ≤ length l.out)

@@ -1,6 +1,0 @@
--- `audit::listing::list_files` ends: its loop has a measure. Assumes nothing.
-use Prim.Native.Nat.{◌-◌}
-use Rattle.audit.proofs.listing.list_files.Given as goal
-
-abbrev pub decreases-loop-f : goal.decreases-loop-f
-decreases-loop-f g l = l.files - l.f

@@ -1,7 +1,0 @@
--- `tokens::set_byte` meets its contract. Assumes nothing.
-use mathlib.Core.Path.{sym}
-use lib.Seq.{set_out}
-use Rattle.tokens.proofs.set_byte.Goals as goal
-
-pub returns-else-at-bytes : goal.returns-else-at-bytes
-returns-else-at-bytes c = sym (set_out c.args.bytes.now c.args.at c.args.byte c.if-at-bytes.false)
