@@ -5,12 +5,12 @@ ghost use Rattle.lists.specs.Splice.{splice};
 ghost use Rattle.image.specs.Schema.{schema};
 ghost use Rattle.image.specs.Flat.{rows_of, flat_fields, first_field, walked, tally_at, within, shallow};
 ghost use Rattle.image.specs.Record.{repeated, containers_in, containers};
-ghost use Rattle.image.specs.Laid.{LaidOut, Sound};
+ghost use Rattle.image.specs.Laid.{LaidOut};
 ghost use Rattle.image.specs.Links.{message_link_width, enum_link_width, message_links, enum_links, oneof_links, links_of, link_words};
 ghost use Rattle.image.specs.Walk.{tallied, InWords, Entering, Indexed, enum_part, field_part, enum_links_at, oneof_links_at};
 
 use crate::rows::{Flat, Range, Row};
-use crate::schema::Image;
+use crate::schema::{Image, Laid};
 use crate::{links, rows};
 
 // The next free flat numbers, which each step of the walk takes and hands on.
@@ -113,11 +113,11 @@ fn index_messages_and_inners(
 }
 
 // The link rows of all messages, in flat order, at the front of `links`.
-fn index_messages(image: &Image, links: &mut [u32])
-    requires sound { Sound (schema image.now) }
-    requires message_link_width_in_bounds { (schema image.now).messages * message_link_width ≤ length links.old }
-    ensures { links.new ≡ splice links.old 0 (message_links (schema image.now) 0 (schema image.now).messages) }
+fn index_messages(laid: &Laid, links: &mut [u32])
+    requires message_link_width_in_bounds { (schema laid.now.image).messages * message_link_width ≤ length links.old }
+    ensures { links.new ≡ splice links.old 0 (message_links (schema laid.now.image) 0 (schema laid.now.image).messages) }
 {
+    let image = &laid.image;
     let count = rows::trailer_word(image.rows.words, 18);
     let enums = rows::trailer_word(image.rows.words, 19);
     let t = Tally {
@@ -130,13 +130,13 @@ fn index_messages(image: &Image, links: &mut [u32])
 }
 
 // The link rows of the enums of all messages, in flat order, from word `at` on, behind those of the file's own enums.
-fn link_inner_enums(image: &Image, at: usize, links: &mut [u32])
-    requires sound { Sound (schema image.now) }
-    requires indexed { Indexed (schema image.now) links.old }
-    requires at_value { at ≡ enum_links_at (schema image.now) 0 }
-    requires pool_in_bounds { enum_links_at (schema image.now) (schema image.now).messages ≤ length links.old }
-    ensures { links.new ≡ splice links.old at (concat_map (enum_part (schema image.now)) (span 0 (schema image.now).messages)) }
+fn link_inner_enums(laid: &Laid, at: usize, links: &mut [u32])
+    requires indexed { Indexed (schema laid.now.image) links.old }
+    requires at_value { at ≡ enum_links_at (schema laid.now.image) 0 }
+    requires pool_in_bounds { enum_links_at (schema laid.now.image) (schema laid.now.image).messages ≤ length links.old }
+    ensures { links.new ≡ splice links.old at (concat_map (enum_part (schema laid.now.image)) (span 0 (schema laid.now.image).messages)) }
 {
+    let image = &laid.image;
     let mut to = at;
     for m in 0..image.rows.sections.messages.count {
         let g = image.rows.enums_of(links::message_row(links, Flat(m)));
@@ -146,25 +146,25 @@ fn link_inner_enums(image: &Image, at: usize, links: &mut [u32])
 }
 
 // The link rows of all enums, in flat order, behind those of the messages.
-fn link_enums(image: &Image, links: &mut [u32])
-    requires sound { Sound (schema image.now) }
-    requires indexed { Indexed (schema image.now) links.old }
-    requires enum_link_width_in_bounds { (schema image.now).messages * message_link_width + (schema image.now).enums * enum_link_width ≤ length links.old }
-    ensures { links.new ≡ splice links.old ((schema image.now).messages * message_link_width) (enum_links (schema image.now) (schema image.now).messages) }
+fn link_enums(laid: &Laid, links: &mut [u32])
+    requires indexed { Indexed (schema laid.now.image) links.old }
+    requires enum_link_width_in_bounds { (schema laid.now.image).messages * message_link_width + (schema laid.now.image).enums * enum_link_width ≤ length links.old }
+    ensures { links.new ≡ splice links.old ((schema laid.now.image).messages * message_link_width) (enum_links (schema laid.now.image) (schema laid.now.image).messages) }
 {
+    let image = &laid.image;
     let at = image.rows.sections.messages.count as usize * links::MESSAGE_LINK;
     let count = rows::trailer_word(image.rows.words, 19);
     links::put_enum_links(links, at, Range { first: 0, count }, 0);
-    link_inner_enums(image, at + count as usize * links::ENUM_LINK, links);
+    link_inner_enums(laid, at + count as usize * links::ENUM_LINK, links);
 }
 
 // The link rows of all oneofs, in flat order, behind those of the enums.
-fn link_oneofs(image: &Image, links: &mut [u32])
-    requires sound { Sound (schema image.now) }
-    requires indexed { Indexed (schema image.now) links.old }
-    requires pool_in_bounds { link_words (schema image.now) ≤ length links.old }
-    ensures { links.new ≡ splice links.old (oneof_links_at (schema image.now) 0) (oneof_links (schema image.now) (schema image.now).messages) }
+fn link_oneofs(laid: &Laid, links: &mut [u32])
+    requires indexed { Indexed (schema laid.now.image) links.old }
+    requires pool_in_bounds { link_words (schema laid.now.image) ≤ length links.old }
+    ensures { links.new ≡ splice links.old (oneof_links_at (schema laid.now.image) 0) (oneof_links (schema laid.now.image) (schema laid.now.image).messages) }
 {
+    let image = &laid.image;
     let n = image.rows.sections.messages.count;
     let e = image.rows.sections.enums.count;
     let mut to = n as usize * links::MESSAGE_LINK + e as usize * links::ENUM_LINK;
@@ -177,14 +177,13 @@ fn link_oneofs(image: &Image, links: &mut [u32])
 }
 
 // The link rows that an image gives, at the front of `links`: messages, enums, oneofs.
-pub(crate) fn number(image: &Image, links: &mut [u32])
-    requires sound { Sound (schema image.now) }
-    requires pool_in_bounds { link_words (schema image.now) ≤ length links.old }
-    ensures { links.new ≡ splice links.old 0 (links_of (schema image.now)) }
+pub(crate) fn number(laid: &Laid, links: &mut [u32])
+    requires pool_in_bounds { link_words (schema laid.now.image) ≤ length links.old }
+    ensures { links.new ≡ splice links.old 0 (links_of (schema laid.now.image)) }
 {
-    index_messages(image, links);
-    link_enums(image, links);
-    link_oneofs(image, links);
+    index_messages(laid, links);
+    link_enums(laid, links);
+    link_oneofs(laid, links);
 }
 
 // Whether the messages of a range, with all below them, are at most `depth` levels deep.
@@ -231,20 +230,15 @@ fn put_fields(homes: &mut [u32], holders: &mut [u32], at: usize, g: Range, conta
 }
 
 // Lists the fields of all messages in flat order, and answers how many there are. `links` are the file's link rows.
-fn list_message_fields(
-    image: &Image,
-    links: &[u32],
-    homes: &mut [u32],
-    holders: &mut [u32],
-) -> usize
-    requires sound { Sound (schema image.now) }
-    requires indexed { Indexed (schema image.now) links.now }
-    requires pool_in_bounds { (schema image.now).fields ≤ length homes.old }
-    requires pool_in_bounds_2 { (schema image.now).fields ≤ length holders.old }
-    ensures value { result ≡ first_field (schema image.now) (schema image.now).messages }
-    ensures homes_after { homes.new ≡ splice homes.old 0 (concat_map (field_part (schema image.now)) (span 0 (schema image.now).messages)) }
-    ensures holders_after { holders.new ≡ splice holders.old 0 (concat_map (containers_in (schema image.now)) (span 0 (schema image.now).messages)) }
+fn list_message_fields(laid: &Laid, links: &[u32], homes: &mut [u32], holders: &mut [u32]) -> usize
+    requires indexed { Indexed (schema laid.now.image) links.now }
+    requires pool_in_bounds { (schema laid.now.image).fields ≤ length homes.old }
+    requires pool_in_bounds_2 { (schema laid.now.image).fields ≤ length holders.old }
+    ensures value { result ≡ first_field (schema laid.now.image) (schema laid.now.image).messages }
+    ensures homes_after { homes.new ≡ splice homes.old 0 (concat_map (field_part (schema laid.now.image)) (span 0 (schema laid.now.image).messages)) }
+    ensures holders_after { holders.new ≡ splice holders.old 0 (concat_map (containers_in (schema laid.now.image)) (span 0 (schema laid.now.image).messages)) }
 {
+    let image = &laid.image;
     let mut to: usize = 0;
     for m in 0..image.rows.sections.messages.count {
         let row = links::message_row(links, Flat(m));
@@ -264,15 +258,15 @@ fn list_message_fields(
 }
 
 // Lists all fields in flat order: the image row of each in `homes`, its containing word in `holders`.
-pub(crate) fn list_fields(image: &Image, links: &[u32], homes: &mut [u32], holders: &mut [u32])
-    requires sound { Sound (schema image.now) }
-    requires links_value { links.now ≡ links_of (schema image.now) }
-    requires pool_in_bounds { (schema image.now).fields ≤ length homes.old }
-    requires pool_in_bounds_2 { (schema image.now).fields ≤ length holders.old }
-    ensures homes_after { homes.new ≡ splice homes.old 0 (flat_fields (schema image.now)) }
-    ensures holders_after { holders.new ≡ splice holders.old 0 (containers (schema image.now)) }
+pub(crate) fn list_fields(laid: &Laid, links: &[u32], homes: &mut [u32], holders: &mut [u32])
+    requires links_value { links.now ≡ links_of (schema laid.now.image) }
+    requires pool_in_bounds { (schema laid.now.image).fields ≤ length homes.old }
+    requires pool_in_bounds_2 { (schema laid.now.image).fields ≤ length holders.old }
+    ensures homes_after { homes.new ≡ splice homes.old 0 (flat_fields (schema laid.now.image)) }
+    ensures holders_after { holders.new ≡ splice holders.old 0 (containers (schema laid.now.image)) }
 {
-    let at = list_message_fields(image, links, homes, holders);
+    let image = &laid.image;
+    let at = list_message_fields(laid, links, homes, holders);
     let own = rows::file_extensions(image.rows.words);
     put_fields(homes, holders, at, own, 0);
 }

@@ -2,14 +2,13 @@
 ghost use Rattle.std.specs.Prelude.{◌≡◌, ◌≤◌, length};
 ghost use Rattle.image.specs.Words.{sections_of};
 ghost use Rattle.image.specs.Schema.{schema, schema_of};
-ghost use Rattle.image.specs.Laid.{Sound};
 ghost use Rattle.image.specs.Links.{links_of, link_words};
 ghost use Rattle.image.specs.Chained.{Chained, Named};
 ghost use Rattle.image.specs.Verdict.{first};
 ghost use Rattle.image.specs.Judge.{map_entry_lines, naming_lines, opening, judged_by, links_by, numbered_verdict};
 
 use crate::rows::Flat;
-use crate::schema::Image;
+use crate::schema::{Image, Laid};
 use crate::verdict::{Refusal, Refused, Verdict};
 use crate::{flat, full_name, layout, limits, links, map_entry, siblings, texts};
 
@@ -40,13 +39,13 @@ fn judge_names(image: &Image, links: &[u32]) -> Verdict
 }
 
 // An image whose link rows are `own`: what is left of 4 and 5, then 8 to 11.
-fn judge_numbered(image: &Image, own: &[u32], links: &mut [u32]) -> Judged
-    requires sections_value { image.now.rows.sections ≡ sections_of image.now.rows.words.now }
-    requires sound { Sound (schema image.now) }
-    requires own_value { own.now ≡ links_of (schema image.now) }
-    ensures value { result ≡ judged_by (numbered_verdict image.now.rows.words.now image.now.rows.sections image.now.pool.now) (schema image.now) }
-    ensures links_after { links.new ≡ links_by (numbered_verdict image.now.rows.words.now image.now.rows.sections image.now.pool.now) (schema image.now) links.old }
+fn judge_numbered(laid: &Laid, own: &[u32], links: &mut [u32]) -> Judged
+    requires sections_value { laid.now.image.rows.sections ≡ sections_of laid.now.image.rows.words.now }
+    requires own_value { own.now ≡ links_of (schema laid.now.image) }
+    ensures value { result ≡ judged_by (numbered_verdict laid.now.image.rows.words.now laid.now.image.rows.sections laid.now.image.pool.now) (schema laid.now.image) }
+    ensures links_after { links.new ≡ links_by (numbered_verdict laid.now.image.rows.words.now laid.now.image.rows.sections laid.now.image.pool.now) (schema laid.now.image) links.old }
 {
+    let image = &laid.image;
     if !limits::texts_short(image) {
         return Err(Refusal::LimitPassed.at(0));
     }
@@ -61,16 +60,16 @@ fn judge_numbered(image: &Image, own: &[u32], links: &mut [u32]) -> Judged
 }
 
 // An image that can be numbered: its link rows are written into `own` first.
-fn judge_sound(image: &Image, own: &mut [u32], links: &mut [u32]) -> Judged
-    requires sections_value { image.now.rows.sections ≡ sections_of image.now.rows.words.now }
-    requires sound { Sound (schema image.now) }
-    requires own_in_bounds { link_words (schema image.now) ≤ length own.old }
-    ensures value { result ≡ judged_by (numbered_verdict image.now.rows.words.now image.now.rows.sections image.now.pool.now) (schema image.now) }
-    ensures links_after { links.new ≡ links_by (numbered_verdict image.now.rows.words.now image.now.rows.sections image.now.pool.now) (schema image.now) links.old }
+fn judge_sound(laid: &Laid, own: &mut [u32], links: &mut [u32]) -> Judged
+    requires sections_value { laid.now.image.rows.sections ≡ sections_of laid.now.image.rows.words.now }
+    requires own_in_bounds { link_words (schema laid.now.image) ≤ length own.old }
+    ensures value { result ≡ judged_by (numbered_verdict laid.now.image.rows.words.now laid.now.image.rows.sections laid.now.image.pool.now) (schema laid.now.image) }
+    ensures links_after { links.new ≡ links_by (numbered_verdict laid.now.image.rows.words.now laid.now.image.rows.sections laid.now.image.pool.now) (schema laid.now.image) links.old }
 {
-    flat::number(image, own);
+    let image = &laid.image;
+    flat::number(laid, own);
     let n = links::link_words(image.rows.sections);
-    judge_numbered(image, &own[..n], links)
+    judge_numbered(laid, &own[..n], links)
 }
 
 // Judges one image. `full` says that the shelf has 32 files. Where none of 3, 4 and 5 is given, the image's link rows without marks
@@ -93,10 +92,11 @@ pub fn judge_image(image: &[u32], pool: &[u8], full: bool, links: &mut [u32]) ->
     if !flat::is_shallow(&image) {
         return Err(Refusal::LimitPassed.at(0));
     }
+    let laid = Laid { image };
     if links::link_words(image.rows.sections) <= 512 {
         let mut few = [0u32; 512];
-        return judge_sound(&image, &mut few, links);
+        return judge_sound(&laid, &mut few, links);
     }
     let mut own = [0u32; 4096];
-    judge_sound(&image, &mut own, links)
+    judge_sound(&laid, &mut own, links)
 }

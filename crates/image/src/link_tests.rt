@@ -11,7 +11,7 @@ ghost use Rattle.image.specs.LinkTests.{file_by, message_exists, enum_exists, is
 ghost use Rattle.image.specs.Places.{file_of, shelf_file, shelf_files};
 
 use crate::rows::Flat;
-use crate::schema::Image;
+use crate::schema::{Image, Laid};
 use crate::shelf::{File, Shelf};
 use crate::{flat, links, rows};
 
@@ -244,7 +244,7 @@ fn listed_links_fit(
     ensures { result ≡ field_links_fit (shelf_files shelf.now (f + 1)) (shelf_file shelf.now f) }
 {
     let image = Image::read(shelf.image(f), shelf.pool(f));
-    flat::list_fields(&image, own, homes, holders);
+    flat::list_fields(&Laid { image }, own, homes, holders);
     field_links_fit(shelf, f, homes, holders)
 }
 

@@ -2,6 +2,8 @@
 ghost use Rattle.std.specs.Prelude.{◌≡◌};
 ghost use Rattle.image.specs.Words.{row_at, sections_of};
 ghost use Rattle.image.specs.Texts.{text_of};
+ghost use Rattle.image.specs.Schema.{schema};
+ghost use Rattle.image.specs.Laid.{Sound};
 
 use crate::rows::{Kind, Row, Rows};
 use crate::texts;
@@ -36,4 +38,11 @@ impl<'a> Image<'a> {
     {
         self.text_at(self.rows.sections.row_at(kind, row))
     }
+}
+
+// An image that can be numbered: it is laid out, and its counts and nesting are within their limits.
+#[derive(Clone, Copy)]
+pub(crate) struct Laid<'a> {
+    pub(crate) image: Image<'a>,
+    ghost sound: { Sound (schema image) },
 }

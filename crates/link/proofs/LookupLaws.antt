@@ -21,7 +21,7 @@ use Rattle.image.specs.declared.verdict.Refused.{Refused}
 use Rattle.image.proofs.ReadLaws.{formed, not-formed}
 use Rattle.image.proofs.VerdictLaws.{first_append}
 use Rattle.link.specs.Refusals.{Call, shelved_files, length_lines, shelf_lines}
-use Rattle.link.specs.Lookup.{shelf_verdict, checked_shelf, opened_by, opened_file, open_as, shelved_file, looked_up, Naming, unwritten, name_written}
+use Rattle.link.specs.Lookup.{shelf_verdict, placed_shelf, opened_by, opened_file, open_as, shelved_file, looked_up, Naming, unwritten, name_written}
 use Rattle.link.proofs.JudgedLaws.{judged_passed, judged_value, judged_stopped, first_stops, first_passes}
 use Rattle.link.proofs.ShelfFacts.{places_files, formed_fits}
 use Rattle.link.proofs.TableLaws.{pass_both, shelf_pass}
@@ -45,15 +45,15 @@ module _ (c : Call) where
   -- ---- 1 and 2. `v` is the verdict of 1
 
   module _ {v : Verdict} (h : v ≡ first (length_lines c)) where
-    pub checked_long : {r : Refused} → v ≡ Err r → Err r ≡ checked_shelf c
+    pub checked_long : {r : Refused} → v ≡ Err r → Err r ≡ placed_shelf c
     unfolding shelf_verdict
     checked_long {r} e = rw (first_stops (length_lines c) (shelf_lines c) r (sym h ∙ e))
 
-    pub checked_broken : v ≡ Ok tt → None ≡ read_shelf c.words c.bytes c.used → Err (record { refusal = ShelfBroken; place = 0 }) ≡ checked_shelf c
+    pub checked_broken : v ≡ Ok tt → None ≡ read_shelf c.words c.bytes c.used → Err (record { refusal = ShelfBroken; place = 0 }) ≡ placed_shelf c
     unfolding shelf_verdict shelf_lines first
     checked_broken e n = rw (first_passes (length_lines c) (shelf_lines c) (sym h ∙ e), not_read n)
 
-    pub checked_fine : v ≡ Ok tt → {p : Places} → Some p ≡ read_shelf c.words c.bytes c.used → Ok p ≡ checked_shelf c
+    pub checked_fine : v ≡ Ok tt → {p : Places} → Some p ≡ read_shelf c.words c.bytes c.used → Ok p ≡ placed_shelf c
     unfolding shelf_verdict shelf_lines first
     checked_fine e s = let w = read_well s in rw (first_passes (length_lines c) (shelf_lines c) (sym h ∙ e), w.0, w.1)
 
@@ -65,11 +65,11 @@ module _ (c : Call) where
   module _ (f : ℕ) where
     -- ---- the way to file f
 
-    pub opened_refused : {r : Refused} → Err r ≡ checked_shelf c → Err r.refusal ≡ opened_file c f
+    pub opened_refused : {r : Refused} → Err r ≡ placed_shelf c → Err r.refusal ≡ opened_file c f
     unfolding opened_file
     opened_refused e = rw (judged_stopped (shelf_verdict c) places (sym e))
 
-    module _ {p : Places} (h : Ok p ≡ checked_shelf c) where
+    module _ {p : Places} (h : Ok p ≡ placed_shelf c) where
       checked : shelf_verdict c ≡ Ok tt
       checked = judged_passed (shelf_verdict c) places (sym h)
 

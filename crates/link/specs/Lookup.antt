@@ -13,7 +13,7 @@ use Rattle.image.specs.Clash.{field_by_number, field_by_name, field_by_name_or_j
 use Rattle.image.specs.Values.{value_by_number, value_by_name}
 use Rattle.image.specs.Record.{File, no_file, says, message_link_at}
 use Rattle.image.specs.Shelf.{used_part}
-use Rattle.image.specs.Places.{file_of, places_of}
+use Rattle.image.specs.Places.{file_of, places_of, read_shelf}
 use Rattle.image.specs.Verdict.{Verdict, judged, number, first}
 use Rattle.image.specs.declared.shelf.Used.{Used}
 use Rattle.image.specs.declared.shelf.File as lent_file
@@ -25,6 +25,7 @@ use Rattle.link.specs.Refusals.{Call, shelved_files, length_lines, shelf_lines}
 use Rattle.link.specs.declared.building.Wanted.{Wanted}
 use Rattle.link.specs.declared.building.Wanted.TheVariants.{Message, Enum}
 use Rattle.link.specs.declared.lookup.Lent.{Lent}
+use Rattle.link.specs.declared.lookup.Checked.{Checked}
 
 -- ---- in one file: a message or an enum, by its full name behind a dot
 
@@ -105,8 +106,12 @@ unfolding first length_lines shelf_lines
 shelf_verdict c = first (length_lines c ++ shelf_lines c)
 
 -- or else where the files stand
-abbrev pub checked_shelf : Call → Result Places Refused
-checked_shelf c = judged (shelf_verdict c) (places_of c.used.files (used_part c.words c.bytes c.used))
+abbrev pub placed_shelf : Call → Result Places Refused
+placed_shelf c = judged (shelf_verdict c) (places_of c.used.files (used_part c.words c.bytes c.used))
+
+-- the verdict with where the files stand, if the shelf is well formed
+abbrev pub checked_shelf : Call → Checked
+checked_shelf c = record { verdict = shelf_verdict c; places = read_shelf c.words c.bytes c.used }
 
 -- file f of the shelf
 abbrev pub shelved_file : Call → ℕ → File

@@ -4,13 +4,13 @@ ghost use Rattle.std.specs.Prelude.{◌≡◌, ◌+◌, ◌<◌, ◌^◌, length
 ghost use Rattle.image.specs.Schema.{schema};
 ghost use Rattle.image.specs.FullName.{full_name};
 ghost use Rattle.link.specs.declared.building.Wanted.TheVariants.{Message, Enum};
-ghost use Rattle.link.specs.Lookup.{looked_number, looked_value, asked_of, checked_shelf, opened_file, open_as, item_named, value_numbered, value_named, field_numbered, field_named, looked_up, written, item_written, name_written};
+ghost use Rattle.link.specs.Lookup.{looked_number, looked_value, asked_of, placed_shelf, checked_shelf, opened_file, open_as, item_named, value_numbered, value_named, field_numbered, field_named, looked_up, written, item_written, name_written};
 
 use crate::building::Wanted;
 use crate::{file_lookup, judge};
 use image::schema::Image;
 use image::shelf::{File, Places, Shelf, Used};
-use image::verdict::{Refusal, Refused};
+use image::verdict::{Refusal, Refused, Verdict};
 use image::{full_name, well_formed};
 
 // What a lookup answers: a number or nothing, or a refusal of the shelf.
@@ -45,9 +45,9 @@ pub fn value(looked: Looked) -> u32
     }
 }
 
-// 1 and 2, for whoever looks things up on a shelf; or where its files stand.
-pub fn check_shelf(lent: &Lent) -> Result<Places, Refused>
-    ensures { result ≡ checked_shelf (asked_of lent.now) }
+// 1 or 2, or else where the files of a shelf stand.
+pub fn shelf_places(lent: &Lent) -> Result<Places, Refused>
+    ensures { result ≡ placed_shelf (asked_of lent.now) }
 {
     let words = lent.words;
     let bytes = lent.bytes;
@@ -58,11 +58,35 @@ pub fn check_shelf(lent: &Lent) -> Result<Places, Refused>
     }
 }
 
+// The verdict of 1 and 2, and where the files stand if the shelf is well formed, however long it is.
+#[derive(Clone, Copy)]
+pub struct Checked {
+    pub verdict: Verdict,
+    pub places: Option<Places>,
+}
+
+// Both at once, for whoever wants to know of a shelf that is refused as well.
+pub fn check_shelf(lent: &Lent) -> Checked
+    ensures { result ≡ checked_shelf (asked_of lent.now) }
+{
+    let places = well_formed::read_shelf(lent.words, lent.bytes, lent.used);
+    match shelf_places(lent) {
+        Ok(_) => Checked {
+            verdict: Ok(()),
+            places,
+        },
+        Err(refused) => Checked {
+            verdict: Err(refused),
+            places,
+        },
+    }
+}
+
 // The file of a shelf that is in order, or nothing where it has no such file.
 fn open_file<'a>(lent: &Lent<'a>, file: u32) -> Result<Option<File<'a>>, Refusal>
     ensures { open_as result ≡ opened_file (asked_of lent.now) file }
 {
-    match check_shelf(lent) {
+    match shelf_places(lent) {
         Err(refused) => Err(refused.refusal),
         Ok(places) => {
             if lent.used.files <= file {

@@ -223,7 +223,7 @@ pub extern "C" fn njuolasti_well_formed(
 ) -> u32
     ensures { result ≡ verdict_number (shelf_verdict (asked_with words.now bytes.now used_words used_bytes files)) }
 {
-    match lookup::check_shelf(&lent(words, bytes, used_words, used_bytes, files)) {
+    match lookup::shelf_places(&lent(words, bytes, used_words, used_bytes, files)) {
         Ok(_) => 0,
         Err(refused) => refused.refusal.number(),
     }

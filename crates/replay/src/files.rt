@@ -4,7 +4,7 @@ use crate::judge::Judged;
 use crate::state::{Lists, State};
 use crate::tally::Tally;
 use crate::{answers, judge, say, words};
-use image::shelf::Used;
+use image::shelf::{File, Used};
 use image::verdict::Verdict;
 use tokens::heads::Expect;
 use tokens::{Token, heads};
@@ -33,23 +33,8 @@ fn done(mut s: State, end: usize, counted: Tally, judged: Judged) -> State {
 }
 
 // Both accept: the words decide.
-fn with_words(
-    rt: &impl Print,
-    lists: Lists,
-    a: Answer,
-    s: State,
-    image: &[u32],
-    links: &[u32],
-) -> State {
-    let c = words::compare(
-        rt,
-        lists,
-        a.end,
-        answers::word_count(a.theirs),
-        s,
-        image,
-        links,
-    );
+fn with_words(rt: &impl Print, lists: Lists, a: Answer, s: State, file: &File) -> State {
+    let c = words::compare(rt, lists, a.end, answers::word_count(a.theirs), s, file);
     done(
         s,
         c.end,
@@ -82,15 +67,14 @@ fn judge_file(
     lists: Lists,
     expect: Expect,
     mut s: State,
-    image: &[u32],
-    links: &[u32],
+    file: &File,
     ours: Verdict,
 ) -> State {
     let a = answers::next(lists.answers, s.answer);
     let judged = judge::judge(expect, a.theirs, ours, s.shelves);
     s.shelves = judge::shelves_after(expect, a.theirs, ours, s.shelves);
     match judged {
-        Judged::Words => with_words(rt, lists, a, s, image, links),
+        Judged::Words => with_words(rt, lists, a, s, file),
         _ => without_words(rt, lists, a, s, judged, ours),
     }
 }
@@ -101,7 +85,7 @@ fn links_of(shelf: &[u32], size: usize, used: Used, after: Used) -> &[u32] {
     tokens::between(record, size, record.len())
 }
 
-// Links a file. One that is refused leaves the three numbers as they were.
+// Links a file. One that is refused has no link rows, and leaves the three numbers as they were.
 fn link_file(
     rt: &impl Print,
     lists: Lists,
@@ -117,11 +101,16 @@ fn link_file(
     match linked {
         Ok(after) => {
             let links = links_of(words, image.len(), used, after);
-            let mut next = judge_file(rt, lists, expect, s, image, links, Ok(()));
+            let file = File { image, pool, links };
+            let mut next = judge_file(rt, lists, expect, s, &file, Ok(()));
             next.used = after;
             next
         }
-        Err(refused) => judge_file(rt, lists, expect, s, image, &[], Err(refused)),
+        Err(refused) => {
+            let links = &[];
+            let file = File { image, pool, links };
+            judge_file(rt, lists, expect, s, &file, Err(refused))
+        }
     }
 }
 

@@ -4,6 +4,7 @@ ghost use Rattle.std.specs.Prelude.{◌<◌};
 use crate::state::{Lists, State};
 use crate::{answers, say};
 use image::rows::{Kind, Sections};
+use image::shelf::File;
 use tokens::Token;
 
 // Where the crate's words go on, and how many were equal, not decided and different.
@@ -85,17 +86,10 @@ fn decided(answers: &[u8], t: Token) -> Option<u32> {
 }
 
 // Holds the crate's words, from `at` on, against as many link words.
-fn compare_each(
-    rt: &impl Print,
-    lists: Lists,
-    at: usize,
-    s: State,
-    image: &[u32],
-    links: &[u32],
-) -> Compared {
+fn compare_each(rt: &impl Print, lists: Lists, at: usize, s: State, file: &File) -> Compared {
     let mut c = Compared::default();
     c.end = at;
-    for (i, &given) in links.iter().enumerate() {
+    for (i, &given) in file.links.iter().enumerate() {
         let t = tokens::next(lists.answers, c.end);
         match decided(lists.answers, t) {
             None => c.undecided = c.undecided.saturating_add(1),
@@ -104,7 +98,7 @@ fn compare_each(
                     c.equal = c.equal.saturating_add(1);
                 } else {
                     c.different = c.different.saturating_add(1);
-                    say_word(rt, lists, s, image, i, wanted, given);
+                    say_word(rt, lists, s, file.image, i, wanted, given);
                 }
             }
         }
@@ -120,17 +114,16 @@ pub fn compare(
     at: usize,
     n: u32,
     s: State,
-    image: &[u32],
-    links: &[u32],
+    file: &File,
 ) -> Compared {
-    if n as usize == links.len() {
-        return compare_each(rt, lists, at, s, image, links);
+    if n as usize == file.links.len() {
+        return compare_each(rt, lists, at, s, file);
     }
     say::file(rt, lists, s);
     say::text(rt, b"the crate gives ");
     say::number(rt, n as u64);
     say::text(rt, b" words, ours are ");
-    say::number(rt, links.len() as u64);
+    say::number(rt, file.links.len() as u64);
     say::text(rt, b"\n");
     Compared {
         end: answers::end_of_words(lists.answers, at, n),

@@ -15,50 +15,50 @@ use Rattle.image.proofs.IndexLaws.{writing_row, oneof_parts, oneof_next, oneof_f
 use Rattle.image.proofs.flat.link_oneofs.Goals as goal
 use Rattle.image.proofs.flat.link_oneofs.Goals.{After-oneofs_of-g}
 
-less : (c : After-oneofs_of-g) → c.loop-m.m < (schema_in c.args.image.now.rows.words.now c.args.image.now.rows.sections c.args.image.now.pool.now).messages
+less : (c : After-oneofs_of-g) → c.loop-m.m < (schema_in c.args.laid.now.image.rows.words.now c.args.laid.now.image.rows.sections c.args.laid.now.image.pool.now).messages
 less c =
     let a = c.args in
-    omega (arith, messages_in a.image.now.rows.words.now a.image.now.rows.sections a.image.now.pool.now, c.loop-m-test.true)
+    omega (arith, messages_in a.laid.now.image.rows.words.now a.laid.now.image.rows.sections a.laid.now.image.pool.now, c.loop-m-test.true)
 
 -- the row that the turn reads is that of message m
-row : (c : After-oneofs_of-g) → c.message_row-row.result.0 ≡ row_of (schema_in c.args.image.now.rows.words.now c.args.image.now.rows.sections c.args.image.now.pool.now) c.loop-m.m
+row : (c : After-oneofs_of-g) → c.message_row-row.result.0 ≡ row_of (schema_in c.args.laid.now.image.rows.words.now c.args.laid.now.image.rows.sections c.args.laid.now.image.pool.now) c.loop-m.m
 row c =
-    let g = (schema_in c.args.image.now.rows.words.now c.args.image.now.rows.sections c.args.image.now.pool.now) in
-    let high = oneof_fits g c.requires.sound 0 (omega arith) in
+    let g = (schema_in c.args.laid.now.image.rows.words.now c.args.laid.now.image.rows.sections c.args.laid.now.image.pool.now) in
+    let high = oneof_fits g c.args.laid.now.sound 0 (omega arith) in
     c.message_row-row.ensures ∙ writing_row g c.requires.indexed c.loop-m.invariant (omega arith) (omega (arith, c.requires.pool_in_bounds)) (less c)
 
-own : (c : After-oneofs_of-g) → c.oneofs_of-g.result ≡ (schema_in c.args.image.now.rows.words.now c.args.image.now.rows.sections c.args.image.now.pool.now).oneofs_in (row_of (schema_in c.args.image.now.rows.words.now c.args.image.now.rows.sections c.args.image.now.pool.now) c.loop-m.m)
+own : (c : After-oneofs_of-g) → c.oneofs_of-g.result ≡ (schema_in c.args.laid.now.image.rows.words.now c.args.laid.now.image.rows.sections c.args.laid.now.image.pool.now).oneofs_in (row_of (schema_in c.args.laid.now.image.rows.words.now c.args.laid.now.image.rows.sections c.args.laid.now.image.pool.now) c.loop-m.m)
 own c =
     let a = c.args in
-    c.oneofs_of-g.ensures ∙ ap (oneofs_of a.image.now.rows.words.now a.image.now.rows.sections) (row c) ∙ oneofs_in_lem a.image.now.rows.words.now a.image.now.rows.sections a.image.now.pool.now _
+    c.oneofs_of-g.ensures ∙ ap (oneofs_of a.laid.now.image.rows.words.now a.laid.now.image.rows.sections) (row c) ∙ oneofs_in_lem a.laid.now.image.rows.words.now a.laid.now.image.rows.sections a.laid.now.image.pool.now _
 
 -- where the part behind it goes, and that there is room for this one
 fits : (c : After-oneofs_of-g) →
-    (oneof_links_at (schema_in c.args.image.now.rows.words.now c.args.image.now.rows.sections c.args.image.now.pool.now) (c.loop-m.m + 1) ≡ c.loop-m.to + c.oneofs_of-g.result.count * 4) × (oneof_links_at (schema_in c.args.image.now.rows.words.now c.args.image.now.rows.sections c.args.image.now.pool.now) (c.loop-m.m + 1) ≤ length c.args.links.now)
+    (oneof_links_at (schema_in c.args.laid.now.image.rows.words.now c.args.laid.now.image.rows.sections c.args.laid.now.image.pool.now) (c.loop-m.m + 1) ≡ c.loop-m.to + c.oneofs_of-g.result.count * 4) × (oneof_links_at (schema_in c.args.laid.now.image.rows.words.now c.args.laid.now.image.rows.sections c.args.laid.now.image.pool.now) (c.loop-m.m + 1) ≤ length c.args.links.now)
 fits c =
-    let ok = c.requires.sound in
+    let ok = c.args.laid.now.sound in
     let n = ap (λ (x : Range). x.count) (own c) in
-    (omega (arith, oneof_next (schema_in c.args.image.now.rows.words.now c.args.image.now.rows.sections c.args.image.now.pool.now) ok c.loop-m.m (less c), c.loop-m.invariant.place), omega (arith, oneof_fits (schema_in c.args.image.now.rows.words.now c.args.image.now.rows.sections c.args.image.now.pool.now) ok (c.loop-m.m + 1) (omega (arith, less c)), c.requires.pool_in_bounds))
+    (omega (arith, oneof_next (schema_in c.args.laid.now.image.rows.words.now c.args.laid.now.image.rows.sections c.args.laid.now.image.pool.now) ok c.loop-m.m (less c), c.loop-m.invariant.place), omega (arith, oneof_fits (schema_in c.args.laid.now.image.rows.words.now c.args.laid.now.image.rows.sections c.args.laid.now.image.pool.now) ok (c.loop-m.m + 1) (omega (arith, less c)), c.requires.pool_in_bounds))
 
 pub loop-m-init : goal.loop-m-init
 loop-m-init c = let a = c.args in
-    let g = schema_in a.image.now.rows.words.now a.image.now.rows.sections a.image.now.pool.now in
-    writing_start (oneof_part g) (oneof_links_at g) g.messages (oneof_parts g c.requires.sound) a.links.now (omega (arith, oneof_words_start g c.requires.sound, messages_in a.image.now.rows.words.now a.image.now.rows.sections a.image.now.pool.now, enum_count_in a.image.now.rows.words.now a.image.now.rows.sections a.image.now.pool.now))
+    let g = schema_in a.laid.now.image.rows.words.now a.laid.now.image.rows.sections a.laid.now.image.pool.now in
+    writing_start (oneof_part g) (oneof_links_at g) g.messages (oneof_parts g c.args.laid.now.sound) a.links.now (omega (arith, oneof_words_start g c.args.laid.now.sound, messages_in a.laid.now.image.rows.words.now a.laid.now.image.rows.sections a.laid.now.image.pool.now, enum_count_in a.laid.now.image.rows.words.now a.laid.now.image.rows.sections a.laid.now.image.pool.now))
 
 pub put_oneof_links-requires : goal.put_oneof_links-requires
 put_oneof_links-requires c =
     let f = fits (goal.at.put_oneof_links-requires c).After-oneofs_of-g in
     let n = ap (λ (x : Range). x.count) (own (goal.at.put_oneof_links-requires c).After-oneofs_of-g) in
-    record { row_bound = rw (row (goal.at.put_oneof_links-requires c).After-oneofs_of-g) (few-oneofs_in (schema_in c.args.image.now.rows.words.now c.args.image.now.rows.sections c.args.image.now.pool.now) c.requires.sound c.loop-m.m (less (goal.at.put_oneof_links-requires c).After-oneofs_of-g)); oneof_link_width_in_bounds = rw (row (goal.at.put_oneof_links-requires c).After-oneofs_of-g) (omega (arith, f.0, f.1, c.loop-m.invariant.len)) }
+    record { row_bound = rw (row (goal.at.put_oneof_links-requires c).After-oneofs_of-g) (few-oneofs_in (schema_in c.args.laid.now.image.rows.words.now c.args.laid.now.image.rows.sections c.args.laid.now.image.pool.now) c.args.laid.now.sound c.loop-m.m (less (goal.at.put_oneof_links-requires c).After-oneofs_of-g)); oneof_link_width_in_bounds = rw (row (goal.at.put_oneof_links-requires c).After-oneofs_of-g) (omega (arith, f.0, f.1, c.loop-m.invariant.len)) }
 
 pub overflow_add-to-in-loop-m : goal.overflow_add-to-in-loop-m
 overflow_add-to-in-loop-m c = let f = fits (goal.at.overflow_add-to-in-loop-m c).After-oneofs_of-g in omega (arith, f.0, f.1, c.well_formed)
 
 pub loop-m-preserved : goal.loop-m-preserved
-loop-m-preserved c = let g = (schema_in c.args.image.now.rows.words.now c.args.image.now.rows.sections c.args.image.now.pool.now) in
-    writing_next (oneof_part g) (oneof_links_at g) g.messages (oneof_parts g c.requires.sound) c.args.links.now c.loop-m.invariant (less (goal.at.loop-m-preserved c).After-oneofs_of-g) (fits (goal.at.loop-m-preserved c).After-oneofs_of-g).1 (sym (fits (goal.at.loop-m-preserved c).After-oneofs_of-g).0) c.put_oneof_links.auto.links
+loop-m-preserved c = let g = (schema_in c.args.laid.now.image.rows.words.now c.args.laid.now.image.rows.sections c.args.laid.now.image.pool.now) in
+    writing_next (oneof_part g) (oneof_links_at g) g.messages (oneof_parts g c.args.laid.now.sound) c.args.links.now c.loop-m.invariant (less (goal.at.loop-m-preserved c).After-oneofs_of-g) (fits (goal.at.loop-m-preserved c).After-oneofs_of-g).1 (sym (fits (goal.at.loop-m-preserved c).After-oneofs_of-g).0) c.put_oneof_links.auto.links
     (c.put_oneof_links.ensures ∙ ap (λ (r : ℕ). splice c.loop-m.links c.loop-m.to (run (oneof_row g c.loop-m.m r) 0 (g.oneofs_in r).count)) (row (goal.at.loop-m-preserved c).After-oneofs_of-g))
 
 pub returns : goal.returns
-returns c = let g = schema_in c.args.image.now.rows.words.now c.args.image.now.rows.sections c.args.image.now.pool.now in
-    writing_end (oneof_part g) (oneof_links_at g) g.messages (oneof_parts g c.requires.sound) c.args.links.now c.loop-m.invariant (omega (arith, messages_in c.args.image.now.rows.words.now c.args.image.now.rows.sections c.args.image.now.pool.now, c.loop-m-test.false))
+returns c = let g = schema_in c.args.laid.now.image.rows.words.now c.args.laid.now.image.rows.sections c.args.laid.now.image.pool.now in
+    writing_end (oneof_part g) (oneof_links_at g) g.messages (oneof_parts g c.args.laid.now.sound) c.args.links.now c.loop-m.invariant (omega (arith, messages_in c.args.laid.now.image.rows.words.now c.args.laid.now.image.rows.sections c.args.laid.now.image.pool.now, c.loop-m-test.false))

@@ -6,5 +6,5 @@ use Rattle.image.proofs.flat.link_oneofs.Given as goal
 
 abbrev pub invariant-loop-m : goal.invariant-loop-m
 invariant-loop-m l =
-    let g = schema_in l.image.rows.words.now l.image.rows.sections l.image.pool.now in
+    let g = schema_in l.laid.image.rows.words.now l.laid.image.rows.sections l.laid.image.pool.now in
     Writing (oneof_part g) (oneof_links_at g) g.messages l.initial.links l.m l.to l.links

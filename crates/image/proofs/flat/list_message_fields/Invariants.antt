@@ -8,5 +8,5 @@ use Rattle.image.proofs.flat.list_message_fields.Given as goal
 
 abbrev pub invariant-loop-m : goal.invariant-loop-m
 invariant-loop-m l =
-    let g = schema_in l.image.rows.words.now l.image.rows.sections l.image.pool.now in
+    let g = schema_in l.laid.image.rows.words.now l.laid.image.rows.sections l.laid.image.pool.now in
     Writing (field_part g) (first_field g) g.messages l.initial.homes l.m l.to l.homes × Writing (containers_in g) (first_field g) g.messages l.initial.holders l.m l.to l.holders

@@ -109,16 +109,22 @@ returns-then-not-is_shallow c =
     let e = opening-deep a.image.now a.pool.now a.full (laid-is (goal.at.returns-then-not-is_shallow c).Else-not-is_laid_out) c.if-full.false (counts-are (goal.at.returns-then-not-is_shallow c).Else-not-counts_within) (sym (depth-says (goal.at.returns-then-not-is_shallow c).After-is_shallow) ∙ c.if-not-is_shallow.true) in
     record { value = ap (λ (r : Refused). Err r) c.at-then-not-is_shallow.ensures ∙ ap (λ (v : Verdict). judged_by v g) (sym e); links_after = sym (ap (λ (v : Verdict). links_by v g a.links.now) e) }
 
+pub invariant_of-laid : goal.invariant_of-laid
+invariant_of-laid c = record { sound = sound-is (goal.at.invariant_of-laid c).Else-not-is_shallow }
+
+pub invariant_of-laid-2 : goal.invariant_of-laid-2
+invariant_of-laid-2 c = record { sound = sound-is (goal.at.invariant_of-laid-2 c).Else-not-is_shallow }
+
 pub judge_sound-requires : goal.judge_sound-requires
 judge_sound-requires c =
     let few : link_words (schema c.read-image.result) ≤ 512 = omega (arith, words_are (goal.at.judge_sound-requires c).After-link_words) in
-    record { sections_value = read-sections (goal.at.judge_sound-requires c).After-read-image; sound = sound-is (goal.at.judge_sound-requires c).Else-not-is_shallow; own_in_bounds = le_trans few (search rules) }
+    record { sections_value = read-sections (goal.at.judge_sound-requires c).After-read-image; own_in_bounds = le_trans few (search rules) }
 
 pub returns-then-link_words-le512 : goal.returns-then-link_words-le512
 returns-then-link_words-le512 c = record { value = c.judge_sound.ensures.value ∙ (opened (goal.at.returns-then-link_words-le512 c).Else-not-is_shallow).0; links_after = c.judge_sound.ensures.links_after ∙ (opened (goal.at.returns-then-link_words-le512 c).Else-not-is_shallow).1 }
 
 pub judge_sound-requires-2 : goal.judge_sound-requires-2
-judge_sound-requires-2 c = record { sections_value = read-sections (goal.at.judge_sound-requires-2 c).After-read-image; sound = sound-is (goal.at.judge_sound-requires-2 c).Else-not-is_shallow; own_in_bounds = le_trans (links-few _ (sound-is (goal.at.judge_sound-requires-2 c).Else-not-is_shallow)) (search rules) }
+judge_sound-requires-2 c = record { sections_value = read-sections (goal.at.judge_sound-requires-2 c).After-read-image; own_in_bounds = le_trans (links-few _ (sound-is (goal.at.judge_sound-requires-2 c).Else-not-is_shallow)) (search rules) }
 
 pub returns : goal.returns
 returns c = record { value = c.judge_sound-2.ensures.value ∙ (opened (goal.at.returns c).Else-not-is_shallow).0; links_after = c.judge_sound-2.ensures.links_after ∙ (opened (goal.at.returns c).Else-not-is_shallow).1 }

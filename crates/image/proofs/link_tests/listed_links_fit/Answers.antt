@@ -13,10 +13,13 @@ said : (c : After-read-image) → schema c.read-image.result ≡ says (shelf_fil
 said c = let file = shelf_file c.args.shelf.now c.args.f in
     schema_read file (reads file c.read-image.ensures c.image.ensures c.pool.ensures)
 
+pub invariant_of-list_fields : goal.invariant_of-list_fields
+invariant_of-list_fields c = record { sound = rw (said (goal.at.invariant_of-list_fields c).After-read-image) c.requires.sound }
+
 pub list_fields-requires : goal.list_fields-requires
 list_fields-requires c =
     let e = said (goal.at.list_fields-requires c).After-read-image in
-    record { sound = rw e c.requires.sound; links_value = c.requires.own_value ∙ ap links_of (sym e); pool_in_bounds = rw e c.requires.homes_in_bounds; pool_in_bounds_2 = rw e c.requires.holders_in_bounds }
+    record { links_value = c.requires.own_value ∙ ap links_of (sym e); pool_in_bounds = rw e c.requires.homes_in_bounds; pool_in_bounds_2 = rw e c.requires.holders_in_bounds }
 
 pub field_links_fit-requires : goal.field_links_fit-requires
 field_links_fit-requires c =
