@@ -8,14 +8,7 @@ use Rattle.formats.specs.Files.{shelf_kind}
 use Rattle.formats.specs.Reading.{ReadOutcome, judged, filled, read_file, shelf_answer, read_shelf}
 use Rattle.formats.specs.declared.file.Fault.{Fault}
 use Rattle.formats.specs.declared.file.Sizes.{Sizes}
-use Rattle.shelf_io.specs.declared.shelves.OpenError.{OpenError}
-use Rattle.shelf_io.specs.Opening.{Kept}
 use Rattle.formats.specs.declared.shelf_file.ShelfSizes.{ShelfSizes}
-
--- whatever went wrong, where all is as it was no more is asked
-pub kept_as_it_was : {A : Type 0} (r : Result A OpenError) (words bytes w b : List ℕ) → (w ≡ words) × (b ≡ bytes) → Kept r words bytes w b
-kept_as_it_was (Ok a) words bytes w b h = tt
-kept_as_it_was (Err e) words bytes w b h = λ _. h
 
 module _ (file words bytes : List ℕ) where
   -- a file with a fault leaves all as it was

@@ -127,7 +127,7 @@ fn tell_state(rt: &impl Print, state: Result<(), OpenError>) -> usize
         Ok(()) => say::text(rt, b"a well-formed shelf"),
         Err(OpenError::Unread(c)) => tell_unread(rt, c),
         Err(OpenError::NoShelf(f)) => tell_no_shelf(rt, f),
-        Err(OpenError::Broken) => say::text(rt, b"a shelf file whose shelf is not well formed"),
+        Err(OpenError::Broken(_)) => say::text(rt, b"a shelf file whose shelf is not well formed"),
     }
 }
 

@@ -1,7 +1,7 @@
 // Shelf files: opened and judged, and stored.
-ghost use Rattle.std.specs.Prelude.{◌≡◌};
+ghost use Rattle.std.specs.Prelude.{◌≡◌, true};
 ghost use Rattle.formats.specs.Writing.{write_shelf};
-ghost use Rattle.shelf_io.specs.Opening.{Kept, Opens};
+ghost use Rattle.shelf_io.specs.Opening.{read_none, Untouched, Opens};
 
 use crate::arguments::read_word;
 use crate::files;
@@ -21,12 +21,12 @@ pub const SHELF_BYTES: usize = 131072;
 
 pub const FILE_ROOM: usize = 1179673;
 
-// Why there is no shelf to work on: the file was not read, or it is no shelf file, or its shelf is not well formed.
+// Why there is no shelf to work on: the file was not read, or it is no shelf file, or its shelf, which has these three numbers, is not well formed.
 #[derive(Clone, Copy, PartialEq, Eq)]
 pub enum OpenError {
     Unread(Cause),
     NoShelf(Fault),
-    Broken,
+    Broken(Used),
 }
 
 // The numbers of a well-formed shelf, and where its files stand.
@@ -36,14 +36,10 @@ pub struct Opened {
     pub places: Places,
 }
 
-impl From<Fault> for OpenError {
-    fn from(fault: Fault) -> OpenError {
-        OpenError::NoShelf(fault)
-    }
-}
-
 impl From<LoadError> for OpenError {
-    fn from(error: LoadError) -> OpenError {
+    fn from(error: LoadError) -> OpenError
+        ensures { read_none result ≡ true }
+    {
         match error {
             LoadError::TooLong => OpenError::NoShelf(Fault::TooLong),
             LoadError::Unread(cause) => OpenError::Unread(cause),
@@ -53,14 +49,16 @@ impl From<LoadError> for OpenError {
 
 // Reads the shelf of a file that was read, and answers its numbers.
 fn decode(file: &[u8], words: &mut [u32], bytes: &mut [u8]) -> Result<Used, OpenError>
-    ensures { Kept result words.old bytes.old words.new bytes.new }
+    ensures { Untouched result words.old bytes.old words.new bytes.new }
 {
-    let sizes = shelf_file::read_shelf(file, words, bytes)?;
-    Ok(Used {
-        words: sizes.words,
-        bytes: sizes.bytes,
-        files: sizes.files,
-    })
+    match shelf_file::read_shelf(file, words, bytes) {
+        Ok(sizes) => Ok(Used {
+            words: sizes.words,
+            bytes: sizes.bytes,
+            files: sizes.files,
+        }),
+        Err(fault) => Err(OpenError::NoShelf(fault)),
+    }
 }
 
 // Reads a file, and its shelf.
@@ -71,10 +69,12 @@ fn load(
     words: &mut [u32],
     bytes: &mut [u8],
 ) -> Result<Used, OpenError>
-    ensures { Kept result words.old bytes.old words.new bytes.new }
+    ensures { Untouched result words.old bytes.old words.new bytes.new }
 {
-    let n = files::read_whole(rt, path, file)?;
-    decode(front(file, n), words, bytes)
+    match files::read_whole(rt, path, file) {
+        Ok(n) => decode(front(file, n), words, bytes),
+        Err(error) => Err(OpenError::from(error)),
+    }
 }
 
 // Opens a shelf file: it is read to the front of `words` and `bytes`, and judged. `file` is room for the file and one byte more.
@@ -89,7 +89,7 @@ pub fn open_shelf(
 {
     let used = load(rt, path, file, words, bytes)?;
     let Some(places) = well_formed::read_shelf(words, bytes, used) else {
-        return Err(OpenError::Broken);
+        return Err(OpenError::Broken(used));
     };
     Ok(Opened { used, places })
 }

@@ -15,4 +15,5 @@ returns g c =
       formed = sym (read_whole w b used) ∙ ap is_some (sym found);
       placed = found;
       kept = tt;
+      broken = tt;
     }
