@@ -28,19 +28,6 @@ passed_end before s i h = rw drop_of_length-le
 
 -- ---- where it ends
 
-pub token_more : (s : List ℕ) (i : ℕ) → i < length s → (is_space (get_or s i 0) || eqb (get_or s i 0) hash) ≡ false
-    → token_length (drop i s) ≡ suc (token_length (drop (i + 1) s))
-unfolding token_length
-token_more s i h e = rw (add-one, drop-cons s i 0, e)
-
-pub token_stop : (s : List ℕ) (i : ℕ) → i < length s → (is_space (get_or s i 0) || eqb (get_or s i 0) hash) ≡ true → token_length (drop i s) ≡ 0
-unfolding token_length
-token_stop s i h e = rw (drop-cons s i 0, e)
-
-pub token_end_lem : (s : List ℕ) (i : ℕ) → length s ≤ i → token_length (drop i s) ≡ 0
-unfolding token_length
-token_end_lem s i h = rw drop_of_length-le
-
 -- the library's word for it
 pub prefix_len-token_length : (s : List ℕ) → prefix_len (λ b. not (is_space b || eqb b hash)) s ≡ token_length s
 unfolding token_length
