@@ -1,5 +1,6 @@
 // How many messages there are, may be incomplete, carry the field that is asked for, and can pass the check without it.
 use link::audit::{Carried, Mark};
+use shelf_io::counts::one_more;
 use shelf_io::say;
 
 #[derive(Clone, Copy, Default)]
@@ -12,9 +13,9 @@ pub struct Tally {
 
 impl Tally {
     pub fn message(mut self, mark: Mark) -> Tally {
-        self.messages = self.messages.saturating_add(1);
+        self.messages = one_more(self.messages);
         if let Mark::MayBeIncomplete(_) = mark {
-            self.marked = self.marked.saturating_add(1);
+            self.marked = one_more(self.marked);
         }
         self
     }
@@ -23,9 +24,9 @@ impl Tally {
         if c.is_none() {
             return self;
         }
-        self.carrying = self.carrying.saturating_add(1);
+        self.carrying = one_more(self.carrying);
         if passes {
-            self.passing = self.passing.saturating_add(1);
+            self.passing = one_more(self.passing);
         }
         self
     }

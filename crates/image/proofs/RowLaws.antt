@@ -2,9 +2,9 @@
 use Prim.Native.Nat.{ℕ, ◌+◌, ◌-◌, ◌*◌, ◌≤◌, ◌<◌, min}
 use native.Mathlib.Nat.{mul-le-mul_left}
 use native.Mathlib.Omega.{arith}
-use mathlib.Core.List.{List, ◌++◌}
+use mathlib.Core.List.{List, [], ◌++◌, append-nil}
 use mathlib.Core.Path.{◌≡◌, sym, ap, ◌∙◌}
-use lib.ListN.{length, drop, replicate, length-append, length-take, length-drop, length-replicate, get_or-append, get_or-replicate, get_or-eq_default}
+use lib.ListN.{length, drop, drop_of_length-le, replicate, length-append, length-take, length-drop, length-replicate, get_or-append, get_or-replicate, get_or-eq_default}
 use lib.Seq.{get_or-append_right, get_or-take, get_or-drop}
 use Rattle.lists.specs.Lists.{part, table}
 use Rattle.lists.proofs.Cases.{order}
@@ -35,3 +35,10 @@ module _ (ws : List ℕ) (at n : ℕ) where
       (λ m. get_or-append p q 0 i m ∙ get_or-take n (drop at ws) i 0 l ∙ get_or-drop at ws i 0)
       (λ m. get_or-append_right p q i 0 m ∙ get_or-drop {A = ℕ} (length p) (replicate n 0) (i - length p) 0
       ∙ get_or-replicate {A = ℕ} n (length p + (i - length p)) 0 0 (omega arith) ∙ sym (word_past ws (at + i) (omega (arith, there_few)))))
+
+  -- all of them are there
+  pub words_whole : length (part at n ws) ≡ n → part at n ws ≡ table n (λ k. word_at ws (at + k))
+  words_whole e =
+      let short : length (replicate {A = ℕ} n 0) ≤ length (part at n ws) = omega (arith, length-replicate {A = ℕ} n 0, e) in
+      let none : drop {A = ℕ} (length (part at n ws)) (replicate {A = ℕ} n 0) ≡ [] = rw drop_of_length-le in
+      sym (ap (λ (q : List ℕ). part at n ws ++ q) none ∙ rw append-nil) ∙ words_filled

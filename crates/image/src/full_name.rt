@@ -20,7 +20,7 @@ use names::name::{concat_paths, put_front};
 
 // The name of a message, as a part of the pool.
 #[tactic(auto, unfolding(crate::specs::Schema::schema_in))]
-pub fn message_name<'a>(image: &Image<'a>, links: &[u32], m: Flat) -> &'a [u8]
+pub fn message_name<'p>(image: &Image<'_, 'p>, links: &[u32], m: Flat) -> &'p [u8]
     ensures { result.now ≡ name_of (schema image.now) links.now m.0 }
 {
     let row = links::message_row(links, m);
@@ -29,7 +29,7 @@ pub fn message_name<'a>(image: &Image<'a>, links: &[u32], m: Flat) -> &'a [u8]
 
 // The name of an enum, as a part of the pool.
 #[tactic(auto, unfolding(crate::specs::Schema::schema_in))]
-pub fn enum_name<'a>(image: &Image<'a>, links: &[u32], e: Flat) -> &'a [u8]
+pub fn enum_name<'p>(image: &Image<'_, 'p>, links: &[u32], e: Flat) -> &'p [u8]
     ensures { result.now ≡ (schema image.now).enum_name (enum_row (schema image.now) links.now e.0) }
 {
     let row = links::enum_row(image, links, e);
@@ -38,7 +38,7 @@ pub fn enum_name<'a>(image: &Image<'a>, links: &[u32], e: Flat) -> &'a [u8]
 
 // The name of an item: the messages, then the enums.
 #[tactic(auto, unfolding(crate::specs::FullName::item_name, crate::specs::Schema::schema_in))]
-pub fn item_name<'a>(image: &Image<'a>, links: &[u32], i: u32) -> &'a [u8]
+pub fn item_name<'p>(image: &Image<'_, 'p>, links: &[u32], i: u32) -> &'p [u8]
     ensures { result.now ≡ item_name (schema image.now) links.now i }
 {
     let n = image.rows.sections.messages.count;
@@ -173,7 +173,7 @@ pub fn find_enum(image: &Image, links: &[u32], wanted: &[u8]) -> Option<Flat>
 
 // The package, as a part of the pool.
 #[tactic(auto, unfolding(crate::specs::Schema::schema_in, crate::specs::Words::trailer_at))]
-pub fn package_name<'a>(image: &Image<'a>) -> &'a [u8]
+pub fn package_name<'p>(image: &Image<'_, 'p>) -> &'p [u8]
     ensures { result.now ≡ (schema image.now).«package» }
 {
     image.text_at(rows::trailer_at(image.rows.words) + 3)

@@ -8,7 +8,7 @@ use crate::schema::Image;
 
 // The file's own name.
 #[tactic(auto, unfolding(crate::specs::Schema::schema_in, crate::specs::Words::trailer_at))]
-pub fn file_name<'a>(image: &Image<'a>) -> &'a [u8]
+pub fn file_name<'p>(image: &Image<'_, 'p>) -> &'p [u8]
     ensures { result.now ≡ (schema image.now).file_name }
 {
     image.text_at(rows::trailer_at(image.rows.words) + 1)
@@ -16,7 +16,7 @@ pub fn file_name<'a>(image: &Image<'a>) -> &'a [u8]
 
 // The name of the file that an import row imports.
 #[tactic(auto, unfolding(crate::specs::Schema::schema_in))]
-pub fn import_name<'a>(image: &Image<'a>, row: Row) -> &'a [u8]
+pub fn import_name<'p>(image: &Image<'_, 'p>, row: Row) -> &'p [u8]
     ensures { result.now ≡ (schema image.now).import_name row.0 }
 {
     image.name_of(Kind::Import, row)

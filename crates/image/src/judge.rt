@@ -72,6 +72,18 @@ fn judge_sound(laid: &Laid, own: &mut [u32], links: &mut [u32]) -> Judged
     judge_numbered(laid, &own[..n], links)
 }
 
+// The same, with room for `N` words of link rows. The array stands here and not where its size is chosen: it is cleared only if it is the one.
+fn judge_within<const N: usize>(laid: &Laid, links: &mut [u32]) -> Judged
+    requires sections_value { laid.now.image.rows.sections ≡ sections_of laid.now.image.rows.words.now }
+    requires size_bound { N ≤ 4096 }
+    requires own_in_bounds { link_words (schema laid.now.image) ≤ N }
+    ensures value { result ≡ judged_by (numbered_verdict laid.now.image.rows.words.now laid.now.image.rows.sections laid.now.image.pool.now) (schema laid.now.image) }
+    ensures links_after { links.new ≡ links_by (numbered_verdict laid.now.image.rows.words.now laid.now.image.rows.sections laid.now.image.pool.now) (schema laid.now.image) links.old }
+{
+    let mut own = [0u32; N];
+    judge_sound(laid, &mut own, links)
+}
+
 // Judges one image. `full` says that the shelf has 32 files. Where none of 3, 4 and 5 is given, the image's link rows without marks
 // (messages, enums, oneofs) stand in front of `links` afterwards, if there is room: 4,096 words are enough for any image.
 // They are built in an array of fixed size, which is cleared when it is made, so an image that gives few gets a small one.
@@ -94,9 +106,7 @@ pub fn judge_image(image: &[u32], pool: &[u8], full: bool, links: &mut [u32]) ->
     }
     let laid = Laid { image };
     if links::link_words(image.rows.sections) <= 512 {
-        let mut few = [0u32; 512];
-        return judge_sound(&laid, &mut few, links);
+        return judge_within::<512>(&laid, links);
     }
-    let mut own = [0u32; 4096];
-    judge_sound(&laid, &mut own, links)
+    judge_within::<4096>(&laid, links)
 }

@@ -16,7 +16,7 @@ use crate::shelf::{File, Shelf};
 use crate::{flat, links, rows};
 
 // The file that a file word names, of the first `n`; one without rows where it names none.
-fn file_by<'a>(shelf: &Shelf<'a>, n: u32, word: u32) -> File<'a>
+fn file_by<'w, 'b>(shelf: &Shelf<'w, 'b>, n: u32, word: u32) -> File<'w, 'b>
     ensures { file_of result ≡ file_by (shelf_files shelf.now n) word }
 {
     if word == 0 || n < word {
@@ -29,16 +29,26 @@ fn file_by<'a>(shelf: &Shelf<'a>, n: u32, word: u32) -> File<'a>
     shelf.file(word - 1)
 }
 
+// Its image alone, for the tests below, of which each type of a shelf asks one.
+fn image_by<'w>(shelf: &Shelf<'w, '_>, n: u32, word: u32) -> &'w [u32]
+    ensures { result.now ≡ (file_by (shelf_files shelf.now n) word).image }
+{
+    if word == 0 || n < word {
+        return &shelf.words[..0];
+    }
+    shelf.image(word - 1)
+}
+
 fn message_exists(shelf: &Shelf, n: u32, word: u32, index: u32) -> bool
     ensures { result ≡ message_exists (shelf_files shelf.now n) word index }
 {
-    index < rows::trailer_word(file_by(shelf, n, word).image, 9)
+    index < rows::trailer_word(image_by(shelf, n, word), 9)
 }
 
 fn enum_exists(shelf: &Shelf, n: u32, word: u32, index: u32) -> bool
     ensures { result ≡ enum_exists (shelf_files shelf.now n) word index }
 {
-    index < rows::trailer_word(file_by(shelf, n, word).image, 11)
+    index < rows::trailer_word(image_by(shelf, n, word), 11)
 }
 
 // How many values an enum has.

@@ -42,7 +42,9 @@ pub(crate) fn put_words(words: &mut [u32], at: usize, src: &[u32])
     requires { at + length src.now ≤ length words.old }
     ensures { words.new ≡ splice words.old at src.now }
 {
-    words[at..at + src.len()].copy_from_slice(src);
+    for j in 0..src.len() {
+        words[at + j] = src[j];
+    }
 }
 
 // Writes all of `src` into the front of `words`, or nothing where there is no room.

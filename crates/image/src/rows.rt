@@ -235,8 +235,12 @@ pub fn file_extensions(image: &[u32]) -> Range
 pub fn words_at<const N: usize>(words: &[u32], at: usize) -> [u32; N]
     ensures { result ≡ table N (λ k. word_at words.now (at + k)) }
 {
-    let mut row = [0u32; N];
     let there = part(words, at, N);
+    // Where all of them are there, the compiler knows how many: a caller that looks at one word of a row then reads that word alone.
+    if let Some(&row) = there.as_array() {
+        return row;
+    }
+    let mut row = [0u32; N];
     row[..there.len()].copy_from_slice(there);
     row
 }

@@ -1,4 +1,5 @@
-// An image with the pool of its texts: what the rules of names, fields, enums and oneofs read.
+// An image with the pool of its texts: what the rules of names, fields, enums and oneofs read. Words and pool are lent each for its own time, and a
+// name is a part of the pool alone.
 ghost use Rattle.std.specs.Prelude.{◌≡◌};
 ghost use Rattle.image.specs.Words.{row_at, sections_of};
 ghost use Rattle.image.specs.Texts.{text_of};
@@ -9,14 +10,14 @@ use crate::rows::{Kind, Row, Rows};
 use crate::texts;
 
 #[derive(Clone, Copy)]
-pub struct Image<'a> {
-    pub rows: Rows<'a>,
-    pub pool: &'a [u8],
+pub struct Image<'w, 'p> {
+    pub rows: Rows<'w>,
+    pub pool: &'p [u8],
 }
 
-impl<'a> Image<'a> {
+impl<'w, 'p> Image<'w, 'p> {
     // The words of an image with the sections that its trailer tells, and its pool.
-    pub fn read(words: &'a [u32], pool: &'a [u8]) -> Image<'a>
+    pub fn read(words: &'w [u32], pool: &'p [u8]) -> Image<'w, 'p>
         ensures { result ≡ record { rows = record { words = words.entry; sections = sections_of words.now }; pool = pool.entry } }
     {
         Image {
@@ -26,14 +27,14 @@ impl<'a> Image<'a> {
     }
 
     // The text whose start and length stand at word `at`, as far as the pool goes.
-    pub fn text_at(&self, at: usize) -> &'a [u8]
+    pub fn text_at(&self, at: usize) -> &'p [u8]
         ensures { result.now ≡ text_of self.now.rows.words.now self.now.pool.now at }
     {
         texts::text_of(self.rows.words, self.pool, at)
     }
 
     // The text that a row of a kind starts with: its name, or an import's file name.
-    pub fn name_of(&self, kind: Kind, row: Row) -> &'a [u8]
+    pub fn name_of(&self, kind: Kind, row: Row) -> &'p [u8]
         ensures { result.now ≡ text_of self.now.rows.words.now self.now.pool.now (row_at self.now.rows.sections kind row.0) }
     {
         self.text_at(self.rows.sections.row_at(kind, row))
@@ -42,7 +43,7 @@ impl<'a> Image<'a> {
 
 // An image that can be numbered: it is laid out, and its counts and nesting are within their limits.
 #[derive(Clone, Copy)]
-pub(crate) struct Laid<'a> {
-    pub(crate) image: Image<'a>,
+pub(crate) struct Laid<'w, 'p> {
+    pub(crate) image: Image<'w, 'p>,
     ghost sound: { Sound (schema image) },
 }

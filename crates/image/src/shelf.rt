@@ -39,21 +39,21 @@ pub struct Places {
 
 // Lent words and bytes with the places of the files in them.
 #[derive(Clone, Copy)]
-pub struct Shelf<'a> {
-    pub words: &'a [u32],
-    pub bytes: &'a [u8],
+pub struct Shelf<'w, 'b> {
+    pub words: &'w [u32],
+    pub bytes: &'b [u8],
     pub places: Places,
 }
 
 // A file of a shelf: the words of its image, the bytes of its pool, its link rows.
 #[derive(Clone, Copy)]
-pub struct File<'a> {
-    pub image: &'a [u32],
-    pub pool: &'a [u8],
-    pub links: &'a [u32],
+pub struct File<'w, 'b> {
+    pub image: &'w [u32],
+    pub pool: &'b [u8],
+    pub links: &'w [u32],
 }
 
-impl<'a> Shelf<'a> {
+impl<'w, 'b> Shelf<'w, 'b> {
     // Where file `f` stands.
     fn place(&self, f: u32) -> Place
         ensures { result ≡ get_or self.now.places.files f no_place }
@@ -66,7 +66,7 @@ impl<'a> Shelf<'a> {
     }
 
     // The image of file `f`.
-    pub fn image(&self, f: u32) -> &'a [u32]
+    pub fn image(&self, f: u32) -> &'w [u32]
         ensures { result.now ≡ (shelf_file self.now f).image }
     {
         let at = self.place(f);
@@ -74,7 +74,7 @@ impl<'a> Shelf<'a> {
     }
 
     // Its link rows.
-    pub fn links(&self, f: u32) -> &'a [u32]
+    pub fn links(&self, f: u32) -> &'w [u32]
         ensures { result.now ≡ (shelf_file self.now f).links }
     {
         let at = self.place(f);
@@ -85,7 +85,7 @@ impl<'a> Shelf<'a> {
     }
 
     // Its pool.
-    pub fn pool(&self, f: u32) -> &'a [u8]
+    pub fn pool(&self, f: u32) -> &'b [u8]
         ensures { result.now ≡ (shelf_file self.now f).pool }
     {
         let at = self.place(f);
@@ -93,7 +93,7 @@ impl<'a> Shelf<'a> {
     }
 
     // All three.
-    pub fn file(&self, f: u32) -> File<'a>
+    pub fn file(&self, f: u32) -> File<'w, 'b>
         ensures { file_of result ≡ shelf_file self.now f }
     {
         File {

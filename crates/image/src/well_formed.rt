@@ -35,7 +35,7 @@ fn image_obeys(image: &[u32], pool: &[u8], own: &mut [u32]) -> bool
 }
 
 // The name of file `f`.
-pub fn file_name<'a>(shelf: &Shelf<'a>, f: u32) -> &'a [u8]
+pub fn file_name<'b>(shelf: &Shelf<'_, 'b>, f: u32) -> &'b [u8]
     ensures { result.now ≡ (says (shelf_file shelf.now f)).file_name }
 {
     imports::file_name(&Image::read(shelf.image(f), shelf.pool(f)))

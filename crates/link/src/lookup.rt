@@ -69,21 +69,29 @@ pub struct Checked {
 pub fn check_shelf(lent: &Lent) -> Checked
     ensures { result ≡ checked_shelf (asked_of lent.now) }
 {
-    let places = well_formed::read_shelf(lent.words, lent.bytes, lent.used);
-    match shelf_places(lent) {
-        Ok(_) => Checked {
+    let words = lent.words;
+    let bytes = lent.bytes;
+    let places = well_formed::read_shelf(words, bytes, lent.used);
+    if let Err(refused) = judge::judge_lengths(words, bytes, lent.used, &words[..0], &bytes[..0]) {
+        return Checked {
+            verdict: Err(refused),
+            places,
+        };
+    }
+    match places {
+        Some(_) => Checked {
             verdict: Ok(()),
             places,
         },
-        Err(refused) => Checked {
-            verdict: Err(refused),
+        None => Checked {
+            verdict: Err(Refusal::ShelfBroken.at(0)),
             places,
         },
     }
 }
 
 // The file of a shelf that is in order, or nothing where it has no such file.
-fn open_file<'a>(lent: &Lent<'a>, file: u32) -> Result<Option<File<'a>>, Refusal>
+fn open_file<'a>(lent: &Lent<'a>, file: u32) -> Result<Option<File<'a, 'a>>, Refusal>
     ensures { open_as result ≡ opened_file (asked_of lent.now) file }
 {
     match shelf_places(lent) {

@@ -7,5 +7,7 @@ pub(crate) fn put<T: Copy>(all: &mut [T], at: usize, src: &[T])
     requires { at + length src.now ≤ length all.old }
     ensures { all.new ≡ splice all.old at src.now }
 {
-    all[at..at + src.len()].copy_from_slice(src);
+    for j in 0..src.len() {
+        all[at + j] = src[j];
+    }
 }

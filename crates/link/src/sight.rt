@@ -11,9 +11,9 @@ use image::shelf::{File, Shelf};
 // The first `n` files of a shelf, the file that is linked, whose shelf number is n, and its search list.
 #[derive(Clone, Copy)]
 pub struct Scope<'a> {
-    pub shelf: Shelf<'a>,
+    pub shelf: Shelf<'a, 'a>,
     pub n: u32,
-    pub own: File<'a>,
+    pub own: File<'a, 'a>,
     pub list: SearchList,
     ghost n_bound: { n ≤ 32 },
     ghost count_bound: { list.count ≤ 32 },
@@ -22,7 +22,7 @@ pub struct Scope<'a> {
 
 impl<'a> Scope<'a> {
     // The file that a file word names.
-    pub(crate) fn file_by(&self, word: u32) -> File<'a>
+    pub(crate) fn file_by(&self, word: u32) -> File<'a, 'a>
         requires { InReach self.now.n word }
         ensures { file_of result ≡ file_by (in_sight (seen_with self.now.shelf self.now.n self.now.own)) word }
     {

@@ -15,7 +15,7 @@ use tokens::front;
 // The shelf that was opened, and its numbers.
 #[derive(Clone, Copy)]
 pub struct Asked<'a> {
-    pub shelf: Shelf<'a>,
+    pub shelf: Shelf<'a, 'a>,
     pub used: Used,
 }
 

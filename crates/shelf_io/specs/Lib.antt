@@ -1,2 +1,3 @@
+pub mod Causes
 pub mod Counts
 pub mod Opening

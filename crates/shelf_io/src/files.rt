@@ -1,5 +1,6 @@
 // Files by name: read whole, and stored whole or not at all.
-ghost use Rattle.std.specs.Prelude.{◌≤◌, length, IfOk};
+ghost use Rattle.std.specs.Prelude.{◌≡◌, ◌≤◌, length, IfOk};
+ghost use Rattle.shelf_io.specs.Causes.{causes, cause_in};
 
 use std::fs;
 use std::fs::{OpenFile, OpenOptions};
@@ -9,23 +10,23 @@ use std::str::Utf8Error;
 use tokens::front;
 
 // The numbers of the system's errors that have a cause of their own.
-const EPERM: i32 = 1;
+const EPERM: u32 = 1;
 
-const ENOENT: i32 = 2;
+const ENOENT: u32 = 2;
 
-const EACCES: i32 = 13;
+const EACCES: u32 = 13;
 
-const EEXIST: i32 = 17;
+const EEXIST: u32 = 17;
 
-const ENOTDIR: i32 = 20;
+const ENOTDIR: u32 = 20;
 
-const EISDIR: i32 = 21;
+const EISDIR: u32 = 21;
 
-const ENOSPC: i32 = 28;
+const ENOSPC: u32 = 28;
 
-const EROFS: i32 = 30;
+const EROFS: u32 = 30;
 
-const ENAMETOOLONG: i32 = 36;
+const ENAMETOOLONG: u32 = 36;
 
 // Why the system did not do what it was asked. `NoText` is said of a path that is not UTF-8, by which no file is asked for; `Taken` of the
 // new file that is to take another's place; `Other` has the number that the system gave, or 0 where it gave none.
@@ -56,36 +57,66 @@ pub enum StoreError {
     Unwritten(Cause),
 }
 
+// The cause that the number of an error stands for.
+#[tactic(auto, unfolding(crate::specs::Causes::cause_in))]
+fn cause_by(number: u32) -> Cause
+    ensures { result ≡ cause_in causes number }
+{
+    match number {
+        ENOENT => Cause::Missing,
+        EACCES | EPERM | EROFS => Cause::Forbidden,
+        EISDIR => Cause::Folder,
+        ENOTDIR => Cause::NoFolder,
+        ENAMETOOLONG => Cause::LongPath,
+        EEXIST => Cause::Taken,
+        ENOSPC => Cause::Full,
+        _ => Cause::Other(number),
+    }
+}
+
 // Why a call failed.
 impl From<Error> for Cause {
+    ghost use Rattle.std.specs.IoError.{raw_os_error};
+    ghost use Rattle.shelf_io.specs.Causes.{cause_of};
+
+    ghost from_gives = { λ error cause. cause ≡ cause_of (raw_os_error error) };
+
     fn from(error: Error) -> Cause {
+        // A number below 0, and none, are said to be 0.
         match error.raw_os_error() {
-            Some(ENOENT) => Cause::Missing,
-            Some(EACCES | EPERM | EROFS) => Cause::Forbidden,
-            Some(EISDIR) => Cause::Folder,
-            Some(ENOTDIR) => Cause::NoFolder,
-            Some(ENAMETOOLONG) => Cause::LongPath,
-            Some(EEXIST) => Cause::Taken,
-            Some(ENOSPC) => Cause::Full,
-            Some(number) => Cause::Other(u32::try_from(number).unwrap_or(0)),
-            None => Cause::Other(0),
+            Some(number) => cause_by(u32::try_from(number).unwrap_or(0)),
+            None => cause_by(0),
         }
     }
 }
 
 impl From<Utf8Error> for Cause {
+    ghost use Rattle.shelf_io.specs.declared.files.Cause.TheVariants.{NoText};
+
+    ghost from_gives = { λ _ cause. cause ≡ NoText };
+
     fn from(_error: Utf8Error) -> Cause {
         Cause::NoText
     }
 }
 
 impl From<Cause> for LoadError {
+    ghost use Rattle.shelf_io.specs.declared.files.LoadError.TheVariants.{Unread};
+
+    ghost from_gives = { λ cause error. error ≡ Unread cause };
+
     fn from(cause: Cause) -> LoadError {
         LoadError::Unread(cause)
     }
 }
 
 impl From<Error> for LoadError {
+    ghost use Rattle.std.specs.IoError.{raw_os_error};
+    ghost use Rattle.shelf_io.specs.Causes.{cause_of};
+    ghost use Rattle.shelf_io.specs.declared.files.LoadError.TheVariants.{Unread};
+
+    ghost from_gives = { λ failed error. error ≡ Unread (cause_of (raw_os_error failed)) };
+
     fn from(error: Error) -> LoadError {
         LoadError::Unread(Cause::from(error))
     }

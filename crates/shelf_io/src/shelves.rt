@@ -1,7 +1,7 @@
 // Shelf files: opened and judged, and stored.
 ghost use Rattle.std.specs.Prelude.{◌≡◌, true};
 ghost use Rattle.formats.specs.Writing.{write_shelf};
-ghost use Rattle.shelf_io.specs.Opening.{read_none, Untouched, Opens};
+ghost use Rattle.shelf_io.specs.Opening.{read_none, used_left, Untouched, Opens};
 
 use crate::arguments::read_word;
 use crate::files;
@@ -29,6 +29,22 @@ pub enum OpenError {
     Broken(Used),
 }
 
+impl OpenError {
+    // The numbers that there are all the same: those of the broken shelf, or, where none was read, those of a shelf with no file.
+    pub fn used(self) -> Used
+        ensures { result ≡ used_left self }
+    {
+        match self {
+            OpenError::Broken(used) => used,
+            OpenError::Unread(_) | OpenError::NoShelf(_) => Used {
+                words: 0,
+                bytes: 0,
+                files: 0,
+            },
+        }
+    }
+}
+
 // The numbers of a well-formed shelf, and where its files stand.
 #[derive(Clone, Copy)]
 pub struct Opened {
@@ -37,9 +53,11 @@ pub struct Opened {
 }
 
 impl From<LoadError> for OpenError {
-    fn from(error: LoadError) -> OpenError
-        ensures { read_none result ≡ true }
-    {
+    ghost use Rattle.shelf_io.specs.Opening.{unopened};
+
+    ghost from_gives = { λ error opened. opened ≡ unopened error };
+
+    fn from(error: LoadError) -> OpenError {
         match error {
             LoadError::TooLong => OpenError::NoShelf(Fault::TooLong),
             LoadError::Unread(cause) => OpenError::Unread(cause),

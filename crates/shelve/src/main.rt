@@ -67,12 +67,8 @@ fn shelve(
     let opened = shelves::open_shelf(rt, path, file, words, bytes);
     let used = match opened {
         Ok(opened) => opened.used,
-        // There is no file yet: the shelf is empty.
-        Err(OpenError::Unread(Cause::Missing)) => Used {
-            words: 0,
-            bytes: 0,
-            files: 0,
-        },
+        // Where there is no file yet, the shelf is empty.
+        Err(missing @ OpenError::Unread(Cause::Missing)) => missing.used(),
         Err(error) => {
             sentences::tell_shelf(rt, path, Err(error));
             return;

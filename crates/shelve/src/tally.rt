@@ -1,6 +1,7 @@
 // The shelf's three numbers, and how many images were accepted, refused, or not read.
 use crate::images::NotLinked;
 use image::shelf::Used;
+use shelf_io::counts::one_more;
 use shelf_io::say;
 
 #[derive(Clone, Copy)]
@@ -26,11 +27,11 @@ impl Tally {
         match linked {
             Ok(used) => {
                 self.used = used;
-                self.accepted = self.accepted.saturating_add(1);
+                self.accepted = one_more(self.accepted);
             }
-            Err(NotLinked::Refused(_)) => self.refused = self.refused.saturating_add(1),
+            Err(NotLinked::Refused(_)) => self.refused = one_more(self.refused),
             Err(NotLinked::Unread(_) | NotLinked::NoImage(_)) => {
-                self.unread = self.unread.saturating_add(1);
+                self.unread = one_more(self.unread);
             }
         }
         self

@@ -28,6 +28,10 @@ passed_end before s i h = rw drop_of_length-le
 
 -- ---- where it ends
 
+pub token_end_lem : (s : List ℕ) (i : ℕ) → length s ≤ i → token_length (drop i s) ≡ 0
+unfolding token_length
+token_end_lem s i h = rw drop_of_length-le
+
 -- the library's word for it
 pub prefix_len-token_length : (s : List ℕ) → prefix_len (λ b. not (is_space b || eqb b hash)) s ≡ token_length s
 unfolding token_length

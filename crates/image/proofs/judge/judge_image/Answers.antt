@@ -1,9 +1,7 @@
 -- `image::judge::judge_image` meets its contract. Assumes nothing.
-use borrow.Author.Rules.{rules}
 use mathlib.Core.Path.{◌≡◌, sym, ap, ◌∙◌, subst}
 use mathlib.Core.Bool.{true}
 use Prim.Native.Nat.{◌≤◌}
-use native.Mathlib.Nat.{le_trans}
 use native.Mathlib.Omega.{arith}
 use lib.ListN.{length}
 use Rattle.image.specs.Words.{sections_of}
@@ -115,16 +113,16 @@ invariant_of-laid c = record { sound = sound-is (goal.at.invariant_of-laid c).El
 pub invariant_of-laid-2 : goal.invariant_of-laid-2
 invariant_of-laid-2 c = record { sound = sound-is (goal.at.invariant_of-laid-2 c).Else-not-is_shallow }
 
-pub judge_sound-requires : goal.judge_sound-requires
-judge_sound-requires c =
-    let few : link_words (schema c.read-image.result) ≤ 512 = omega (arith, words_are (goal.at.judge_sound-requires c).After-link_words) in
-    record { sections_value = read-sections (goal.at.judge_sound-requires c).After-read-image; own_in_bounds = le_trans few (search rules) }
+pub judge_within-requires : goal.judge_within-requires
+judge_within-requires c =
+    let few : link_words (schema c.read-image.result) ≤ 512 = omega (arith, words_are (goal.at.judge_within-requires c).After-link_words) in
+    record { sections_value = read-sections (goal.at.judge_within-requires c).After-read-image; size_bound = omega arith; own_in_bounds = few }
 
 pub returns-then-link_words-le512 : goal.returns-then-link_words-le512
-returns-then-link_words-le512 c = record { value = c.judge_sound.ensures.value ∙ (opened (goal.at.returns-then-link_words-le512 c).Else-not-is_shallow).0; links_after = c.judge_sound.ensures.links_after ∙ (opened (goal.at.returns-then-link_words-le512 c).Else-not-is_shallow).1 }
+returns-then-link_words-le512 c = record { value = c.judge_within.ensures.value ∙ (opened (goal.at.returns-then-link_words-le512 c).Else-not-is_shallow).0; links_after = c.judge_within.ensures.links_after ∙ (opened (goal.at.returns-then-link_words-le512 c).Else-not-is_shallow).1 }
 
-pub judge_sound-requires-2 : goal.judge_sound-requires-2
-judge_sound-requires-2 c = record { sections_value = read-sections (goal.at.judge_sound-requires-2 c).After-read-image; own_in_bounds = le_trans (links-few _ (sound-is (goal.at.judge_sound-requires-2 c).Else-not-is_shallow)) (search rules) }
+pub judge_within-requires-2 : goal.judge_within-requires-2
+judge_within-requires-2 c = record { sections_value = read-sections (goal.at.judge_within-requires-2 c).After-read-image; size_bound = omega arith; own_in_bounds = links-few _ (sound-is (goal.at.judge_within-requires-2 c).Else-not-is_shallow) }
 
 pub returns : goal.returns
-returns c = record { value = c.judge_sound-2.ensures.value ∙ (opened (goal.at.returns c).Else-not-is_shallow).0; links_after = c.judge_sound-2.ensures.links_after ∙ (opened (goal.at.returns c).Else-not-is_shallow).1 }
+returns c = record { value = c.judge_within-2.ensures.value ∙ (opened (goal.at.returns c).Else-not-is_shallow).0; links_after = c.judge_within-2.ensures.links_after ∙ (opened (goal.at.returns c).Else-not-is_shallow).1 }

@@ -3,10 +3,9 @@ use mathlib.Core.Path.{ap}
 use lib.Dec.{ltb}
 use Rattle.image.specs.LinkTests.{file_by}
 use Rattle.image.specs.Places.{shelf_files}
-use Rattle.image.specs.Record.{File}
 use Rattle.image.proofs.FileLaws.{enums_by}
 use Rattle.image.proofs.link_tests.enum_exists.Goals as goal
 
 pub returns : goal.returns
 returns c = let a = c.args in
-    ap (ltb a.index) (enums_by (file_by (shelf_files a.shelf.now a.n) a.word) (ap (λ (x : File). x.image) c.file_by.ensures) c.trailer_word.ensures)
+    ap (ltb a.index) (enums_by (file_by (shelf_files a.shelf.now a.n) a.word) c.image_by.ensures c.trailer_word.ensures)

@@ -11,23 +11,23 @@ taken : (c : After-cased_byte) → json_left c.args.self.now ≡ c.cased_byte.re
 taken c =
     let l = c.loop-b in
     let x = c.in-Some in
-    l.invariant ∙ rw (x.ensures.steps, c.cased_byte.ensures) (json_take l.up x.field-0.now (iter_rest c.next.new.self) c.if-b-ne95.true)
+    l.invariant ∙ rw (x.ensures.steps, c.cased_byte.ensures) (json_take l.up x.field-0.now (iter_rest c.next.new.self) c.if-is_other.true)
 
 pub loop-b-init : goal.loop-b-init
 unfolding derived_json_name
 loop-b-init c = refl
 
-pub returns-then-b-ne95-clause-steps : goal.returns-then-b-ne95-clause-steps
-returns-then-b-ne95-clause-steps c = taken c
+pub returns-then-is_other-clause-steps : goal.returns-then-is_other-clause-steps
+returns-then-is_other-clause-steps c = taken c
 
-pub returns-then-b-ne95-clause-goes : goal.returns-then-b-ne95-clause-goes
-returns-then-b-ne95-clause-goes c = let e = taken c in search rules
+pub returns-then-is_other-clause-goes : goal.returns-then-is_other-clause-goes
+returns-then-is_other-clause-goes c = let e = taken c in search rules
 
 pub loop-b-preserved : goal.loop-b-preserved
 loop-b-preserved c =
     let l = c.loop-b in
     let x = c.in-Some in
-    l.invariant ∙ ap (derived_from l.up) x.ensures.steps ∙ json_skip l.up x.field-0.now (iter_rest c.next.new.self) c.if-b-ne95.false
+    l.invariant ∙ ap (derived_from l.up) x.ensures.steps ∙ json_skip l.up x.field-0.now (iter_rest c.next.new.self) c.if-is_other.false
 
 pub returns-clause-steps : goal.returns-clause-steps
 unfolding derived_json_name
